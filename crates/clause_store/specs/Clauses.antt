@@ -1,0 +1,126 @@
+-- What callers see of a store: a finite map from ids to clauses.
+use Rattle.std.specs.Prelude.{◌≡◌, ◌≢◌, ℕ, Bool, not, false, ◌&&◌, List, [], ◌∷◌, Option, None, Some, ◌++◌, if◌then◌else◌, IsTrue, is_some, is_none, unwrap_or, option_and_then, option_map, refl}
+use Rattle.std.specs.Ordering.{nat_cmp}
+use Rattle.std.specs.FinMap as finmap
+use Rattle.std.specs.Coded.{Coded, code_by, coded×, coded_list, coded_option, coded_ℕ}
+use Rattle.lits.specs.Clause.{has, set_of}
+
+-- what an active clause has besides its set: its slot, its literals in some order, and its links
+pub record Place : Type 0 where
+  pub slot : ℕ
+  pub lits : List ℕ
+  pub one : Option ℕ
+  pub two : Option ℕ
+
+-- a clause: its literal set as the ascending list, and its place, which it has where it is active; without one it is weakened
+pub record Held : Type 0 where
+  pub literals : List ℕ
+  pub place : Option Place
+
+-- a place is stored as its parts
+abbrev pub place_code : Coded Place
+place_code =
+    code_by (ℕ × (List ℕ × (Option ℕ × Option ℕ))) (coded× coded_ℕ (coded× (coded_list coded_ℕ) (coded× (coded_option coded_ℕ) (coded_option coded_ℕ))))
+    (λ e. (e.slot, (e.lits, (e.one, e.two)))) (λ p. record { slot = p.0; lits = p.1.0; one = p.1.1.0; two = p.1.1.1 }) (λ _. refl)
+
+-- a clause is stored as its parts
+abbrev pub held_code : Coded Held
+held_code =
+    code_by (List ℕ × Option Place) (coded× (coded_list coded_ℕ) (coded_option place_code))
+    (λ e. (e.literals, e.place)) (λ p. record { literals = p.0; place = p.1 }) (λ _. refl)
+
+-- the clauses by id
+abbrev pub Store : Type 0
+Store = finmap.FinMap nat_cmp Held
+
+-- the place of an active clause
+abbrev pub place_at : Store → ℕ → Option Place
+place_at m id = option_and_then (λ h. h.place) (finmap.get m id)
+
+-- the slot of an active clause
+abbrev pub slot_at : Store → ℕ → Option ℕ
+slot_at m id = option_map (λ p. p.slot) (place_at m id)
+
+-- whether the id is that of an active clause
+abbrev pub is_active : Store → ℕ → Bool
+is_active m id = is_some (slot_at m id)
+
+-- whether the id is that of an active or a weakened clause
+abbrev pub is_held : Store → ℕ → Bool
+is_held m id = finmap.contains_key m id
+
+-- whether the id is that of a weakened clause
+abbrev pub is_weakened : Store → ℕ → Bool
+is_weakened m id = is_held m id && not (is_active m id)
+
+-- the slot is that of an active clause
+abbrev pub IsSlot : Store → ℕ → Type 0
+IsSlot m s = (id : ℕ) × (slot_at m id ≡ Some s)
+
+-- no active clause has the slot
+abbrev pub IsFresh : Store → ℕ → Type 0
+IsFresh m s = (id : ℕ) → slot_at m id ≢ Some s
+
+-- a list with a literal at its end, unless it has it
+abbrev pub with_new : List ℕ → ℕ → List ℕ
+with_new ls l = if has ls l then ls else ls ++ l ∷ []
+
+-- these, and then each literal at its first place that they don't have
+unfoldable pub firsts_behind : List ℕ → List ℕ → List ℕ
+firsts_behind ls [] = ls
+firsts_behind ls (m ∷ ms) = firsts_behind (with_new ls m) ms
+
+-- each literal at its first place
+abbrev pub firsts : List ℕ → List ℕ
+firsts ls = firsts_behind [] ls
+
+-- no literal stands twice
+abbrev pub IsOnce : List ℕ → Type 0
+IsOnce [] = Unit {0}
+IsOnce (x ∷ xs) = (has xs x ≡ false) × IsOnce xs
+
+-- the literals of an active clause in their order, none where the id isn't active
+abbrev pub lits_at : Store → ℕ → List ℕ
+lits_at m id = unwrap_or (option_map (λ p. p.lits) (place_at m id)) []
+
+-- the literal set of a clause, empty where the id is free
+abbrev pub literals_at : Store → ℕ → List ℕ
+literals_at m id = unwrap_or (option_map (λ h. h.literals) (finmap.get m id)) []
+
+-- an active clause of this set and list, with no links
+abbrev pub active_clause : List ℕ → List ℕ → ℕ → Held
+active_clause set ls s = record { literals = set; place = Some (record { slot = s; lits = ls; one = None; two = None }) }
+
+-- an active clause of these literals, as `add` makes it
+abbrev pub new_clause : List ℕ → ℕ → Held
+new_clause ls s = active_clause (set_of ls) (firsts ls) s
+
+-- a weakened clause of this set
+abbrev pub weakened_clause : List ℕ → Held
+weakened_clause set = record { literals = set; place = None }
+
+-- the weakened clause is active again, at a slot that no active clause had, with each of its literals once and no links
+pub record IsRestored (old : Store) (id : ℕ) (new : Store) : Type 0 where
+  pub slot : ℕ
+  pub lits : List ℕ
+  pub fresh : IsFresh old slot
+  pub once : IsOnce lits
+  pub same_literals : set_of lits ≡ literals_at old id
+  pub changed : new ≡ finmap.insert old id (active_clause (literals_at old id) lits slot)
+
+-- the id is that of an active clause with this set
+abbrev pub IsActiveWith : Store → List ℕ → ℕ → Type 0
+IsActiveWith m set id = IsTrue (is_active m id) × (literals_at m id ≡ set)
+
+-- the id is that of a weakened clause with this set
+abbrev pub IsWeakenedWith : Store → List ℕ → ℕ → Type 0
+IsWeakenedWith m set id = IsTrue (is_weakened m id) × (literals_at m id ≡ set)
+
+-- what holds of every store
+pub record IsStore (m : Store) : Type 0 where
+  -- two active clauses have different slots
+  pub slots_apart : (a b s : ℕ) → slot_at m a ≡ Some s → slot_at m b ≡ Some s → a ≡ b
+  -- the list of an active clause has the literals of its set, each once
+  pub same_literals : (id : ℕ) (h : Held) (p : Place) → finmap.get m id ≡ Some h → h.place ≡ Some p → (set_of p.lits ≡ h.literals) × IsOnce p.lits
+  -- the set of a clause is the ascending list
+  pub sets : (id : ℕ) (h : Held) → finmap.get m id ≡ Some h → set_of h.literals ≡ h.literals

@@ -1,0 +1,286 @@
+//! Clauses by id, each active or weakened. The literals of a clause lie in a pool, each once, and the pool's slot is the
+//! name by which propagation speaks of an active clause. Ids are found through an ordered map. The ids of a literal set are
+//! found through ordered pairs of the set's key and an id, so the least id of a set is the first that is met.
+#![tactic(auto)]
+
+ghost use Rattle.std.specs.Prelude.{◌≡◌, ℕ, ◌≤◌, List, OnOk, IfOk, IfErr, IfSome, IfNone, IsTrue, true, false, Some, None};
+ghost use Rattle.std.specs.FinMap as finmap;
+ghost use Rattle.clause_store.specs.Clauses.{slot_at, lits_at, is_active, is_weakened, is_held, IsSlot, IsFresh, IsActiveWith, IsWeakenedWith, IsRestored, literals_at, new_clause, weakened_clause, IsStore};
+ghost use Rattle.clause_store.specs.declared.StoreFault.TheVariants as fault;
+
+use lit_pool::Pool;
+pub use lit_pool::{Slot, Which};
+use lits::{Lit, LitSet};
+use std::alloc::Global;
+use std::collections::{BTreeMap, BTreeSet};
+use std::marker::Model;
+
+mod index;
+mod once;
+mod rows;
+
+/// Why the store refuses. A rule's refusal comes before want of memory.
+#[derive(Clone, Copy, PartialEq, Eq, Debug)]
+pub enum StoreFault {
+    /// The id isn't that of an active clause.
+    NotActive = 1,
+    /// The id isn't that of a weakened clause.
+    NotWeakened = 2,
+    /// The id is that of an active or a weakened clause.
+    IdTaken = 3,
+    /// Memory is wanting.
+    Memory = 4,
+}
+
+/// The clauses. Contracts see a finite map from each id to its literal set and, where the clause is active, to its slot,
+/// its list of literals and its two links.
+#[derive(Drop)]
+pub struct Store {
+    pool: Pool,
+    clauses: BTreeMap<u64, rows::Kept>,
+    active: BTreeSet<(u64, u64)>,
+    weakened: BTreeSet<(u64, u64)>,
+    ids: Vec<u64>,
+    alloc: Global,
+}
+
+impl Model for Store {
+    ghost use Rattle.std.specs.Ordering.{nat_cmp};
+    ghost use Rattle.std.specs.FinMap as finmap;
+    ghost use Rattle.std.specs.Coded.{coded_ℕ};
+    ghost use Rattle.clause_store.specs.Clauses.{Held, held_code};
+
+    ghost Value = { finmap.FinMap nat_cmp Held };
+
+    ghost coded = { finmap.code coded_ℕ held_code };
+
+    ghost use Rattle.clause_store.specs.Rows.{store_of, IsInside};
+
+    ghost view = { λ s. store_of s.pool s.clauses.entries };
+
+    ghost invariant = { λ s. IsInside s.pool s.clauses.entries s.active s.weakened s.ids.items };
+}
+
+impl Store {
+    /// A store with no clause.
+    pub fn new(alloc: Global) -> Store
+        ensures { result ≡ finmap.empty }
+    {
+        Store {
+            pool: Pool::new(alloc),
+            clauses: BTreeMap::new(alloc),
+            active: BTreeSet::new(alloc),
+            weakened: BTreeSet::new(alloc),
+            ids: Vec::new(alloc),
+            alloc,
+        }
+    }
+
+    /// Adds an active clause. Its list has the literals in the order of their first places, and its links are None. IdTaken
+    /// comes exactly where the id is active or weakened; the store stays after each refusal.
+    pub fn add(&mut self, id: u64, lits: &[Lit]) -> Result<Slot, StoreFault>
+        ensures fresh { IfOk result (λ s. IsFresh self.old s) }
+        ensures ok { IfOk result (λ s. self.new ≡ finmap.insert self.old id (new_clause lits.now s)) }
+        ensures free { IfOk result (λ _. is_held self.old id ≡ false) }
+        ensures err { IfErr result (λ _. self.new ≡ self.old) }
+        ensures taken { IfErr result (λ e. IsTrue (is_held self.old id) → e ≡ fault.IdTaken) }
+        ensures memory { IfErr result (λ e. is_held self.old id ≡ false → e ≡ fault.Memory) }
+    {
+        if self.clauses.contains_key(&id) {
+            return Err(StoreFault::IdTaken);
+        }
+        let Ok(set) = LitSet::of(self.alloc, lits) else {
+            return Err(StoreFault::Memory);
+        };
+        let key = index::key_of(set.as_slice());
+        let Ok(slot) = once::add_once(self.alloc, &mut self.pool, set.len(), lits) else {
+            return Err(StoreFault::Memory);
+        };
+        if rows::note(&mut self.ids, slot, id).is_err() {
+            self.pool.free(slot);
+            return Err(StoreFault::Memory);
+        }
+        if rows::enter(&mut self.active, &mut self.clauses, id, key, slot).is_err() {
+            self.pool.free(slot);
+            return Err(StoreFault::Memory);
+        }
+        Ok(slot)
+    }
+
+    /// Takes an active clause out. NotActive comes exactly where the id isn't active, and then the store stays. It takes no
+    /// memory and never answers Memory.
+    pub fn delete(&mut self, id: u64) -> Result<(), StoreFault>
+        ensures ok { IfOk result (λ _. self.new ≡ finmap.remove self.old id) }
+        ensures active { IfOk result (λ _. IsTrue (is_active self.old id)) }
+        ensures err { IfErr result (λ e. (e ≡ fault.NotActive) × (self.new ≡ self.old)) }
+        ensures inactive { IfErr result (λ _. is_active self.old id ≡ false) }
+    {
+        let Some(slot) = rows::active_slot(&self.clauses, id) else {
+            return Err(StoreFault::NotActive);
+        };
+        rows::leave(&mut self.active, &mut self.clauses, id);
+        self.pool.free(slot);
+        Ok(())
+    }
+
+    /// Makes an active clause a weakened one. NotActive comes exactly where the id isn't active; the store stays after each
+    /// refusal.
+    pub fn weaken(&mut self, id: u64) -> Result<(), StoreFault>
+        ensures ok { IfOk result (λ _. self.new ≡ finmap.insert self.old id (weakened_clause (literals_at self.old id))) }
+        ensures active { IfOk result (λ _. IsTrue (is_active self.old id)) }
+        ensures err { IfErr result (λ _. self.new ≡ self.old) }
+        ensures inactive { IfErr result (λ e. is_active self.old id ≡ false → e ≡ fault.NotActive) }
+        ensures memory { IfErr result (λ e. IsTrue (is_active self.old id) → e ≡ fault.Memory) }
+    {
+        let Some(_slot) = rows::active_slot(&self.clauses, id) else {
+            return Err(StoreFault::NotActive);
+        };
+        if rows::switch(
+            &mut self.active,
+            &mut self.weakened,
+            &mut self.clauses,
+            id,
+            false,
+        )
+        .is_err()
+        {
+            return Err(StoreFault::Memory);
+        }
+        Ok(())
+    }
+
+    /// Makes a weakened clause an active one with no links, at a slot that no active clause has. NotWeakened comes exactly
+    /// where the id isn't weakened; the store stays after each refusal.
+    pub fn restore(&mut self, id: u64) -> Result<(), StoreFault>
+        ensures ok { IfOk result (λ _. IsRestored self.old id self.new) }
+        ensures weakened { IfOk result (λ _. IsTrue (is_weakened self.old id)) }
+        ensures err { IfErr result (λ _. self.new ≡ self.old) }
+        ensures held { IfErr result (λ e. is_weakened self.old id ≡ false → e ≡ fault.NotWeakened) }
+        ensures memory { IfErr result (λ e. IsTrue (is_weakened self.old id) → e ≡ fault.Memory) }
+    {
+        let Some(slot) = rows::weakened_slot(&self.clauses, id) else {
+            return Err(StoreFault::NotWeakened);
+        };
+        if rows::switch(
+            &mut self.weakened,
+            &mut self.active,
+            &mut self.clauses,
+            id,
+            true,
+        )
+        .is_err()
+        {
+            return Err(StoreFault::Memory);
+        }
+        self.pool.set_link(slot, Which::One, None);
+        self.pool.set_link(slot, Which::Two, None);
+        Ok(())
+    }
+
+    /// The least id of an active clause with this literal set; None exactly where there is none.
+    pub fn least_active(&self, set: &LitSet) -> Option<u64>
+        ensures found { IfSome result (λ id. IsActiveWith self.now set.now id) }
+        ensures least { IfSome result (λ id. (x : ℕ) → IsActiveWith self.now set.now x → id ≤ x) }
+        ensures none { IfNone result ((x : ℕ) → IsActiveWith self.now set.now x → ⊥) }
+    {
+        index::least(&self.active, &self.clauses, &self.pool, set)
+    }
+
+    /// The least id of a weakened clause with this literal set; None exactly where there is none.
+    pub fn least_weakened(&self, set: &LitSet) -> Option<u64>
+        ensures found { IfSome result (λ id. IsWeakenedWith self.now set.now id) }
+        ensures least { IfSome result (λ id. (x : ℕ) → IsWeakenedWith self.now set.now x → id ≤ x) }
+        ensures none { IfNone result ((x : ℕ) → IsWeakenedWith self.now set.now x → ⊥) }
+    {
+        index::least(&self.weakened, &self.clauses, &self.pool, set)
+    }
+
+    /// The slot of an active clause; None exactly where the id isn't active.
+    pub fn find(&self, id: u64) -> Option<Slot>
+        ensures slot { result ≡ slot_at self.now id }
+        ensures sound { IsStore self.now }
+    {
+        rows::active_slot(&self.clauses, id)
+    }
+
+    /// The id of the active clause at this slot.
+    pub fn id_of(&self, s: Slot) -> u64
+        requires { IsSlot self.now s }
+        ensures { slot_at self.now result ≡ Some s }
+    {
+        self.ids[s.number() as usize]
+    }
+
+    /// The literals of the active clause at this slot, in the order of its list.
+    pub fn lits(&self, s: Slot) -> &[Lit]
+        requires { IsSlot self.now s }
+        ensures { (id : ℕ) → slot_at self.now id ≡ Some s → lits_at self.now id ≡ result.now }
+    {
+        self.pool.lits(s)
+    }
+}
+
+#[cfg(test)]
+mod tests {
+    use super::*;
+    use std::process::Abort;
+    use std::test::Fail;
+
+    fn lit(n: i64) -> Result<Lit, Fail> {
+        Ok(Lit::new(n).ok_or("no literal")?)
+    }
+
+    fn set(alloc: Global, lits: &[Lit]) -> Result<LitSet, Fail> {
+        LitSet::of(alloc, lits).map_err(|_| Fail::from("no memory"))
+    }
+
+    #[test]
+    fn clauses_are_added_weakened_restored_and_deleted(rt: HostRuntime) -> Result<(), Fail> {
+        let lits = [lit(2)?, lit(-1)?, lit(2)?];
+        let mut store = Store::new(rt.alloc());
+        let slot = store.add(7, &lits).ok();
+        assert!(rt; slot.is_some());
+        assert!(rt; store.find(7) == slot);
+        assert!(rt; store.add(7, &lits) == Err(StoreFault::IdTaken));
+        assert!(rt; store.restore(7) == Err(StoreFault::NotWeakened));
+        assert!(rt; store.weaken(7) == Ok(()));
+        assert!(rt; store.find(7).is_none());
+        assert!(rt; store.delete(7) == Err(StoreFault::NotActive));
+        assert!(rt; store.restore(7) == Ok(()));
+        assert!(rt; store.delete(7) == Ok(()));
+        assert!(rt; store.find(7).is_none());
+        Ok(())
+    }
+
+    #[test]
+    fn the_least_id_of_a_set_is_found(rt: HostRuntime) -> Result<(), Fail> {
+        let one = set(rt.alloc(), &[lit(1)?, lit(-2)?])?;
+        let mut store = Store::new(rt.alloc());
+        assert!(rt; store.least_active(&one).is_none());
+        assert!(rt; store.add(9, &[lit(-2)?, lit(1)?]).is_ok());
+        assert!(rt; store.add(4, &[lit(1)?, lit(-2)?, lit(1)?]).is_ok());
+        assert!(rt; store.add(3, &[lit(1)?]).is_ok());
+        assert_eq!(rt; store.least_active(&one), Some(4));
+        assert!(rt; store.weaken(4) == Ok(()));
+        assert_eq!(rt; store.least_active(&one), Some(9));
+        assert_eq!(rt; store.least_weakened(&one), Some(4));
+        Ok(())
+    }
+
+    #[test]
+    fn a_list_has_each_literal_at_its_first_place(rt: HostRuntime) -> Result<(), Fail> {
+        let lits = [lit(2)?, lit(-1)?, lit(2)?, lit(1)?];
+        let mut store = Store::new(rt.alloc());
+        assert!(rt; store.add(1, &[]).is_ok());
+        assert!(rt; store.add(2, &lits).is_ok());
+        if let Some(slot) = store.find(2) {
+            assert_eq!(rt; store.id_of(slot), 2);
+            let kept = store.lits(slot);
+            assert_eq!(rt; kept.len(), 3);
+            assert_eq!(rt; kept[0].number(), 2);
+            assert_eq!(rt; kept[1].number(), -1);
+            assert_eq!(rt; kept[2].number(), 1);
+        }
+        Ok(())
+    }
+}

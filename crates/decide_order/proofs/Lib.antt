@@ -1,0 +1,5 @@
+pub mod Heaps
+pub mod Ranks
+pub mod Places
+pub mod Views
+pub mod Orders

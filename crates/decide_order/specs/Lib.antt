@@ -1,0 +1,4 @@
+pub mod Ranked
+pub mod Placed
+pub mod Heap
+pub mod Shown

@@ -1,0 +1,22 @@
+use Rattle.std.proofs.Common.{◌≡◌, ◌≢◌, ℕ, suc, ◌+◌, ◌<◌, ◌≤◌, ◌*◌, List, ◌∷◌, [], length, get_or, drop, take, Some, None, Contains, true, false, not, nat_eq, refl, sym, subst, ap, ◌∙◌, arith, add-one}
+use Rattle.std.proofs.lemmas.List.{get_or_default}
+use Rattle.std.proofs.lemmas.List.Elements.{Contains-get_or}
+use Rattle.std.proofs.lemmas.Bool.{eqb-false}
+use Rattle.lits.proofs.Members.{has_at, has_from}
+use Rattle.lits.specs.Literal.{neg}
+use Rattle.lits.specs.Clause.{has}
+use Rattle.session_rules.specs.Logic as logic
+use Rattle.session_rules.specs.declared.Left.TheVariants.{Falsified, UnitLiteral, Open}
+use Rattle.session_rules.specs.Logic.{left, hints_fail_from, hints_fail}
+use Rattle.hint_check.specs.Hints.{active_at, end_of, met_seen}
+use Rattle.hint_check.specs.Marks.{IsMarked, IsBelow}
+use Rattle.hint_check.proofs.Lefts.{marked-put, has-cons, has-take, left-more, left-same, Active, active_slot, not_active, hint_none, hint_left, hint_end, any_none, below-put, inside_var, different, same_test, has_or}
+use Rattle.hint_check.proofs.rest.Goals as goal
+
+pub returns-then-ne-clause-left : goal.returns-then-ne-clause-left
+returns-then-ne-clause-left c = λ trues m.
+    let item : get_or c.args.lits.now c.loop-l.l-index 0 ≡ c.l-item.result = get_or_default c.args.lits.now c.loop-l.l-index 0 c.l-item.result c.loop-l-test.true ∙ sym c.l-item.is in
+    let inside : neg c.l-item.result < length c.args.marks.now = c.requires.within c.l-item.result (subst (λ z. Contains c.args.lits.now z) item (Contains-get_or c.args.lits.now c.loop-l.l-index 0 c.loop-l-test.true)) in
+    let free : has trues (neg (get_or c.args.lits.now c.loop-l.l-index 0)) ≡ false = ap (λ z. has trues (neg z)) item ∙ sym (m (neg c.l-item.result) inside) ∙ ap (λ z. nat_eq (get_or c.args.marks.now z 0) c.args.mark) (sym c.neg.ensures.negation) ∙ sym c.is_true.ensures ∙ c.if-not-is_true.true in
+    left-more trues c.args.lits.now c.loop-l.l-index c.in-Some.m c.loop-l-test.true free (ap met_seen (sym c.in-Some.is) ∙ c.loop-l.invariant.left trues m)
+    (λ e. different (nat_eq c.in-Some.m c.l-item.result) (sym c.ne.ensures ∙ c.if-ne.true) (same_test _ _ (e ∙ item)))

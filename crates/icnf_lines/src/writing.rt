@@ -1,0 +1,42 @@
+// How a header and the lines of the interaction are written.
+ghost use Rattle.session_rules.specs.Spelling.{event_words, header_words, line_text};
+ghost use Rattle.line_writing.specs.Writing.{WritesLine};
+
+#[cfg(test)]
+mod tests;
+
+use line_writing::{Part, status_word, write_parts};
+use outside::Sink;
+use session_rules::{Event, WriteFault};
+
+/// Writes a file's header, the words `p` and the name of the form.
+///
+/// # Errors
+///
+/// `Exhausted` comes exactly where the line is longer than the room, `Write` only where the sink's count of faults rose
+/// or stands at its end. What each leaves is as with `line_writing::write_parts`.
+pub fn write_header<K: Sink>(sink: &mut K, room: &mut u64, name: &[u8]) -> Result<(), WriteFault>
+    ensures { WritesLine K.written K.finished K.faults sink.old sink.new room.old room.new
+        (line_text (header_words name.now)) result }
+{
+    write_parts(sink, room, b'p', &[Part::Word(name)])
+}
+
+/// Writes the line of an event.
+///
+/// # Errors
+///
+/// `Exhausted` comes exactly where the line is longer than the room, `Write` only where the sink's count of faults rose
+/// or stands at its end. What each leaves is as with `line_writing::write_parts`.
+pub fn write_line<K: Sink>(sink: &mut K, room: &mut u64, event: &Event) -> Result<(), WriteFault>
+    ensures { WritesLine K.written K.finished K.faults sink.old sink.new room.old room.new
+        (line_text (event_words event.now)) result }
+{
+    match event {
+        Event::Input(lits) => write_parts(sink, room, b'i', &[Part::Lits(lits.as_slice())]),
+        Event::Query(lits) => write_parts(sink, room, b'q', &[Part::Lits(lits.as_slice())]),
+        Event::Status(s) => write_parts(sink, room, b's', &[Part::Word(status_word(*s))]),
+        Event::Model(lits) => write_parts(sink, room, b'm', &[Part::Lits(lits.as_slice())]),
+        Event::Core(lits) => write_parts(sink, room, b'u', &[Part::Lits(lits.as_slice())]),
+    }
+}

@@ -1,0 +1,49 @@
+use crate::{write_header, write_line};
+use lits::{Lit, Lits};
+use outside::MemorySink;
+use session_rules::StatusWord::{Satisfiable, Unknown, Unsatisfiable};
+use session_rules::{Event, WriteFault};
+use std::alloc::{AllocError, Global};
+use std::process::Abort;
+use std::test::Fail;
+
+// A list of the literals that numbers are written for.
+fn lits(rt: &impl Abort, alloc: Global, numbers: &[i64]) -> Result<Lits, AllocError> {
+    let mut list = Lits::new(alloc);
+    for n in numbers {
+        list.push(Lit::new(*n).expect(rt, "a literal"))?;
+    }
+    Ok(list)
+}
+
+#[test]
+fn each_event_has_its_line(rt: HostRuntime) -> Result<(), Fail> {
+    let alloc = rt.alloc();
+    let mut sink = MemorySink::new(alloc, 7, Vec::new(alloc));
+    let mut room = 1_000;
+    assert_eq!(rt; write_header(&mut sink, &mut room, b"icnf"), Ok(()));
+    let events = [
+        Event::Input(lits(&rt, alloc, &[1, -2, 16_777_215])?),
+        Event::Input(lits(&rt, alloc, &[])?),
+        Event::Query(lits(&rt, alloc, &[-2, -2])?),
+        Event::Status(Satisfiable),
+        Event::Model(lits(&rt, alloc, &[-1, 2])?),
+        Event::Status(Unsatisfiable),
+        Event::Core(lits(&rt, alloc, &[-2])?),
+        Event::Status(Unknown),
+    ];
+    for event in &events {
+        assert_eq!(rt; write_line(&mut sink, &mut room, event), Ok(()));
+    }
+    let text =
+        b"p icnf\ni 1 -2 16777215 0\ni 0\nq -2 -2 0\ns SATISFIABLE\nm -1 2 0\ns UNSATISFIABLE\nu -2 0\ns UNKNOWN\n";
+    assert_eq!(rt; sink.bytes(), text.as_slice());
+    assert_eq!(rt; room, 1_000 - text.len() as u64);
+    room = 12;
+    assert_eq!(rt;
+        write_line(&mut sink, &mut room, &events[3]),
+        Err(WriteFault::Exhausted)
+    );
+    assert_eq!(rt; sink.bytes(), text.as_slice());
+    Ok(())
+}

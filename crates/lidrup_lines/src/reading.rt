@@ -1,0 +1,87 @@
+// How the lines of a proof with ids are read.
+ghost use Rattle.std.specs.Prelude.{◌≡◌, ◌+◌, ◌≤◌, IsErrOf};
+ghost use Rattle.outside.specs.Faults.{Rose};
+ghost use Rattle.session_rules.specs.declared.LineFault.{LineFault};
+ghost use Rattle.session_rules.specs.Lines.{most_bytes};
+ghost use Rattle.session_rules.specs.Reading.{lidrup_line, id_step_at};
+ghost use Rattle.slice_tokens.specs.Place.{ahead, WhereTold};
+ghost use Rattle.slice_tokens.specs.Calls.{Moves};
+ghost use Rattle.line_reading.specs.Parts.{Stays};
+ghost use Rattle.line_reading.specs.Whole.{ReadsRest, LineAnswers};
+
+#[cfg(test)]
+mod tests;
+
+use line_reading::{
+    enter_line, id_literals_ids_rest, id_literals_rest, ids_rest, literals_ids_rest, literals_rest,
+    status_rest,
+};
+use outside::Source;
+use session_rules::{LStep, Letter, LineFault, Rule};
+use slice_tokens::Window;
+use std::alloc::Global;
+
+// What stands in a line behind its letter.
+fn read_step<S: Source>(
+    alloc: Global,
+    window: &mut Window,
+    src: &mut S,
+    letter: Letter,
+) -> Result<LStep, LineFault>
+    requires bounded { window.old.passed ≤ most_bytes }
+    requires counted { window.old.line ≤ window.old.passed + 1 }
+    ensures stays { Stays window.old window.new }
+    ensures told { WhereTold (ahead window.old (S.left src.old)) (ahead window.new (S.left src.new))
+        (λ bytes rest. ReadsRest (id_step_at letter) result window.old bytes window.new rest) }
+    ensures count { S.faults src.old ≤ S.faults src.new }
+    ensures read { IsErrOf result LineFault.Read → Rose (S.faults src.old) (S.faults src.new) }
+{
+    match letter {
+        Letter::Input => {
+            let (id, lits) = id_literals_rest(alloc, window, src)?;
+            Ok(LStep::Input { id, lits })
+        }
+        Letter::Lemma => {
+            let (id, lits, hints) = id_literals_ids_rest(alloc, window, src)?;
+            Ok(LStep::Lemma { id, lits, hints })
+        }
+        Letter::Core => {
+            let (lits, hints) = literals_ids_rest(alloc, window, src)?;
+            Ok(LStep::Core { lits, hints })
+        }
+        Letter::Query => Ok(LStep::Query(literals_rest(alloc, window, src)?)),
+        Letter::Status => Ok(LStep::Status(status_rest(window, src)?)),
+        Letter::Model => Ok(LStep::Model(literals_rest(alloc, window, src)?)),
+        Letter::Deletion => Ok(LStep::Delete(ids_rest(alloc, window, src)?)),
+        Letter::Weakening => Ok(LStep::Weaken(ids_rest(alloc, window, src)?)),
+        Letter::Restoring => Ok(LStep::Restore(ids_rest(alloc, window, src)?)),
+        Letter::NoLetter => Err(LineFault::Syntax(Rule::Letter)),
+    }
+}
+
+/// The next content line; none exactly at the end of the stream.
+///
+/// # Errors
+///
+/// `Syntax` comes exactly where the line breaks a rule of syntax, and is that of its first word at fault; the window then
+/// stands in that line. `Read` comes only where the source's count rose. `Memory` is want of memory.
+pub fn read_line<S: Source>(
+    alloc: Global,
+    window: &mut Window,
+    src: &mut S,
+) -> Result<Option<LStep>, LineFault>
+    ensures moves { Moves window.old window.new }
+    ensures told { WhereTold (ahead window.old (S.left src.old)) (ahead window.new (S.left src.new))
+        (λ bytes rest. LineAnswers lidrup_line window.old bytes window.new rest result) }
+    ensures count { S.faults src.old ≤ S.faults src.new }
+    ensures read { IsErrOf result LineFault.Read → Rose (S.faults src.old) (S.faults src.new) }
+{
+    match enter_line(window, src) {
+        Ok(None) => Ok(None),
+        Ok(Some(letter)) => match read_step(alloc, window, src, letter) {
+            Ok(step) => Ok(Some(step)),
+            Err(fault) => Err(fault),
+        },
+        Err(fault) => Err(fault),
+    }
+}

@@ -1,0 +1,6 @@
+pub mod Opening
+pub mod LongWords
+pub mod Collecting
+pub mod Resting
+pub mod FirstLetter
+pub mod ByLetter

@@ -1,0 +1,182 @@
+-- The rest of a line, read part by part to its end.
+use Rattle.std.proofs.Common.{◌≡◌, ℕ, Bool, true, false, if◌then◌else◌, List, [], ◌∷◌, Some, None, Ok, Err, refl, sym, ap, ◌∙◌, subst}
+use Rattle.std.specs.declared.option.Option.{Option}
+use Rattle.std.specs.declared.result.Result.{Result}
+use Rattle.session_rules.specs.declared.StatusWord.{StatusWord}
+use Rattle.session_rules.specs.declared.Rule.{Rule}
+use Rattle.session_rules.specs.declared.Rule.TheVariants as rules
+use Rattle.session_rules.specs.declared.LineFault.{LineFault}
+use Rattle.session_rules.specs.declared.LineFault.TheVariants.{Syntax, Read, Memory}
+use Rattle.session_rules.specs.Lines.{Line}
+use Rattle.session_rules.specs.Reading.{Fault, wrong, missing, ◌>>=◌, Part, of_whole_line, of_cut_line, whole, own_id, literal_list, id_list, of_literals, of_ids, of_status, status_word}
+use Rattle.slice_tokens.specs.Place.{Place, WhereTold, ahead, present}
+use Rattle.slice_tokens.specs.Due.{known_words}
+use Rattle.slice_tokens.specs.Calls.{SameLater}
+use Rattle.line_reading.specs.Parts.{fault_rule, PartAnswers, SameLine, ReadsPart, end_fault, EndAnswers, EndsLine}
+use Rattle.line_reading.specs.Whole.{of_line, Tells, ReadsRest, literals_rest, ids_rest, status_rest, id_literals_rest, id_literals_ids_rest, literals_ids_rest}
+use Rattle.line_reading.proofs.Collecting.{later_trans, told_then}
+
+-- ---- A part, and what comes behind it
+
+module _ {A B : Type 0} (part : List (List ℕ) → Part A) (more : A → List (List ℕ) → Result B Fault) where
+  abbrev pub with_more : List (List ℕ) → Result B Fault
+  with_more ws = part ws >>= λ m. more m.0 m.1
+
+  -- a part was read, and then the rest
+  pub rest_then : (x : A) (r : Result B LineFault) (p q s : Place) (t u v : List ℕ) → ReadsPart part (Ok x) p t q u → ReadsRest (more x) r q u s v → ReadsRest with_more r p t s v
+  rest_then x r p q s t u v h k = record {
+    answer =
+        let said : with_more (known_words (present p t)) ≡ more x (known_words (present q u)) = ap (λ o. o >>= λ m. more m.0 m.1) h.answer in
+        subst (λ o. Tells (of_line (present p t).cut o) r) (sym said) (subst (λ c. Tells (of_line c (more x (known_words (present q u)))) r) h.line.cut k.answer);
+    behind = later_trans _ _ _ _ _ _ h.behind k.behind;
+  }
+
+  fault_said : (cut : Bool) (o : Part A) (e : LineFault) (after : Line) → after.cut ≡ cut → PartAnswers o after (Err e) → Tells {A = B} (of_line cut (o >>= λ m. more m.0 m.1)) (Err e)
+  fault_said cut (Ok m) (Syntax r) after c a = absurd a
+  fault_said true (Err (wrong w)) (Syntax r) after c a = ap (λ z. Err z) (sym a)
+  fault_said false (Err (wrong w)) (Syntax r) after c a = ap (λ z. Err z) (sym a)
+  fault_said true (Err (missing w)) (Syntax r) after c a = ap (λ z. Err z) (sym (a ∙ ap (λ k. if k then rules.Length else w) c))
+  fault_said false (Err (missing w)) (Syntax r) after c a = ap (λ z. Err z) (sym (a ∙ ap (λ k. if k then rules.Length else w) c))
+  fault_said cut o Read after c a = tt
+  fault_said cut o Memory after c a = tt
+
+  -- a part was at fault
+  pub rest_fault : (e : LineFault) (p q : Place) (t u : List ℕ) → ReadsPart part (Err e) p t q u → ReadsRest with_more (Err e) p t q u
+  rest_fault e p q t u h = record {
+    answer = fault_said (present p t).cut (part (known_words (present p t))) e (present q u) h.line.cut h.answer;
+    behind = h.behind;
+  }
+
+-- ---- The line's end
+
+module _ {A : Type 0} (x : A) where
+  end_said : (cut : Bool) (ws : List (List ℕ)) → end_fault cut ws ≡ None → of_line cut (whole x ws) ≡ Ok x
+  end_said true [] e = cc e
+  end_said false [] e = refl
+  end_said cut (w ∷ ws) e = cc e
+
+  end_broken : (cut : Bool) (ws : List (List ℕ)) (r : Rule) → end_fault cut ws ≡ Some r → of_line cut (whole x ws) ≡ Err r
+  end_broken true [] r e = let f : rules.Length ≡ r = cc e in ap (λ z. Err z) f
+  end_broken false [] r e = cc e
+  end_broken true (w ∷ ws) r e = let f : rules.Excess ≡ r = cc e in ap (λ z. Err z) f
+  end_broken false (w ∷ ws) r e = let f : rules.Excess ≡ r = cc e in ap (λ z. Err z) f
+
+  pub end_then : (y : Unit) (p q : Place) (t u : List ℕ) → EndsLine (Ok y) p t q u → ReadsRest (whole x) (Ok x) p t q u
+  end_then y p q t u h = record { answer = end_said (present p t).cut (known_words (present p t)) h.answer; behind = h.behind }
+
+  fault_at_end : (cut : Bool) (ws : List (List ℕ)) (e : LineFault) → EndAnswers (end_fault cut ws) (Err e) → Tells (of_line cut (whole x ws)) (Err e)
+  fault_at_end cut ws (Syntax r) a = end_broken cut ws r a
+  fault_at_end cut ws Read a = tt
+  fault_at_end cut ws Memory a = tt
+
+  pub end_fails : (e : LineFault) (p q : Place) (t u : List ℕ) → EndsLine (Err e) p t q u → ReadsRest (whole x) (Err e) p t q u
+  end_fails e p q t u h = record { answer = fault_at_end (present p t).cut (known_words (present p t)) e h.answer; behind = h.behind }
+
+-- ---- Another value of the same words
+
+-- the value by a function of another
+abbrev pub mapped : {A B : Type 0} → (A → B) → Result A Fault → Result B Fault
+mapped f (Ok x) = Ok (f x)
+mapped f (Err e) = Err e
+
+module _ {A B : Type 0} (f : A → B) where
+  mapped_line : (cut : Bool) (o : Result A Fault) (x : A) → of_line cut o ≡ Ok x → of_line cut (mapped f o) ≡ Ok (f x)
+  mapped_line true (Ok y) x e = cc e
+  mapped_line false (Ok y) x e = let g : y ≡ x = cc e in ap (λ z. Ok (f z)) g
+  mapped_line true (Err (wrong r)) x e = cc e
+  mapped_line true (Err (missing r)) x e = cc e
+  mapped_line false (Err e) x g = cc g
+
+  mapped_fault : (cut : Bool) (o : Result A Fault) (r : Rule) → of_line cut o ≡ Err r → of_line cut (mapped f o) ≡ Err r
+  mapped_fault true (Ok y) r e = let g : rules.Length ≡ r = cc e in ap (λ z. Err z) g
+  mapped_fault false (Ok y) r e = cc e
+  mapped_fault true (Err (wrong w)) r e = let g : w ≡ r = cc e in ap (λ z. Err z) g
+  mapped_fault true (Err (missing w)) r e = let g : rules.Length ≡ r = cc e in ap (λ z. Err z) g
+  mapped_fault false (Err (wrong w)) r e = let g : w ≡ r = cc e in ap (λ z. Err z) g
+  mapped_fault false (Err (missing w)) r e = let g : w ≡ r = cc e in ap (λ z. Err z) g
+
+  pub mapped_ok : (says : List (List ℕ) → Result A Fault) (other : List (List ℕ) → Result B Fault) → ((ws : List (List ℕ)) → other ws ≡ mapped f (says ws))
+      → (x : A) (p q : Place) (t u : List ℕ) → ReadsRest says (Ok x) p t q u → ReadsRest other (Ok (f x)) p t q u
+  mapped_ok says other same x p q t u h = record {
+    answer = ap (of_line (present p t).cut) (same (known_words (present p t))) ∙ mapped_line (present p t).cut (says (known_words (present p t))) x h.answer;
+    behind = h.behind;
+  }
+
+  tells_mapped : (cut : Bool) (o : Result A Fault) (e : LineFault) → Tells (of_line cut o) (Err e) → Tells (of_line cut (mapped f o)) (Err e)
+  tells_mapped cut o (Syntax r) a = mapped_fault cut o r a
+  tells_mapped cut o Read a = tt
+  tells_mapped cut o Memory a = tt
+
+  pub mapped_err : (says : List (List ℕ) → Result A Fault) (other : List (List ℕ) → Result B Fault) → ((ws : List (List ℕ)) → other ws ≡ mapped f (says ws))
+      → (e : LineFault) (p q : Place) (t u : List ℕ) → ReadsRest says (Err e) p t q u → ReadsRest other (Err e) p t q u
+  mapped_err says other same e p q t u h = record {
+    answer = subst (λ o. Tells {A = B} (of_line (present p t).cut o) (Err e)) (sym (same (known_words (present p t)))) (tells_mapped (present p t).cut (says (known_words (present p t))) e h.answer);
+    behind = h.behind;
+  }
+
+-- ---- The rests by their parts
+
+whole-mapped : {A B : Type 0} (f : A → B) (x : A) (ws : List (List ℕ)) → whole (f x) ws ≡ mapped f (whole x ws)
+whole-mapped f x [] = refl
+whole-mapped f x (w ∷ ws) = refl
+
+-- the value of an id and literals, and of literals and ids
+abbrev pub id_with : ℕ → List ℕ → ℕ × List ℕ
+id_with i ls = (i, ls)
+
+abbrev pub both_lists : List ℕ → List ℕ → List ℕ × List ℕ
+both_lists ls hs = (ls, hs)
+
+abbrev pub with_first : ℕ → (List ℕ × List ℕ) → ℕ × List ℕ × List ℕ
+with_first i m = (i, m.0, m.1)
+
+-- a list and the line's end, as another value
+list_mapped : {B : Type 0} (f : List ℕ → B) (o : Part (List ℕ)) → (o >>= λ ls. whole (f ls.0) ls.1) ≡ mapped f (o >>= λ ls. whole ls.0 ls.1)
+list_mapped f (Ok m) = whole-mapped f m.0 m.1
+list_mapped f (Err e) = refl
+
+-- the rest behind an id
+pub with_id : (i : ℕ) (ws : List (List ℕ)) → (literal_list ws >>= λ ls. whole (id_with i ls.0) ls.1) ≡ mapped (id_with i) (literals_rest ws)
+with_id i ws = list_mapped (id_with i) (literal_list ws)
+
+-- the rest behind a literal list
+pub with_literals : (ls : List ℕ) (ws : List (List ℕ)) → (id_list ws >>= λ hs. whole (both_lists ls hs.0) hs.1) ≡ mapped (both_lists ls) (ids_rest ws)
+with_literals ls ws = list_mapped (both_lists ls) (id_list ws)
+
+-- ---- Faults behind a part that was read
+
+pub fault_behind_literals : (ls : List ℕ) (e : LineFault) (a b c : Option (List ℕ)) (p q s : Place) → WhereTold a b (λ t u. ReadsPart literal_list (Ok ls) p t q u)
+    → WhereTold b c (λ u v. ReadsRest ids_rest (Err e) q u s v) → WhereTold a c (λ t v. ReadsRest literals_ids_rest (Err e) p t s v)
+fault_behind_literals ls e a b c p q s h k = told_then a b c _ _ _ h k (λ t u v i j.
+    rest_then literal_list (λ ls ws. id_list ws >>= λ hs. whole (both_lists ls hs.0) hs.1) ls (Err e) p q s t u v i
+    (mapped_err (both_lists ls) ids_rest (λ ws. id_list ws >>= λ hs. whole (both_lists ls hs.0) hs.1) (with_literals ls) e q s u v j))
+
+pub fault_behind_id : (i : ℕ) (e : LineFault) (a b c : Option (List ℕ)) (p q s : Place) → WhereTold a b (λ t u. ReadsPart own_id (Ok i) p t q u)
+    → WhereTold b c (λ u v. ReadsRest literals_rest (Err e) q u s v) → WhereTold a c (λ t v. ReadsRest id_literals_rest (Err e) p t s v)
+fault_behind_id i e a b c p q s h k = told_then a b c _ _ _ h k (λ t u v m j.
+    rest_then own_id (λ i ws. literal_list ws >>= λ ls. whole (id_with i ls.0) ls.1) i (Err e) p q s t u v m
+    (mapped_err (id_with i) literals_rest (λ ws. literal_list ws >>= λ ls. whole (id_with i ls.0) ls.1) (with_id i) e q s u v j))
+
+-- the rest behind an id, of two lists
+lists_behind : ℕ → List (List ℕ) → Result (ℕ × List ℕ × List ℕ) Fault
+lists_behind i ws = literal_list ws >>= λ ls. id_list ls.1 >>= λ hs. whole (with_first i (both_lists ls.0 hs.0)) hs.1
+
+lists_mapped : (i : ℕ) (ws : List (List ℕ)) → lists_behind i ws ≡ mapped (with_first i) (literals_ids_rest ws)
+unfolding lists_behind
+lists_mapped i ws = by_literals (literal_list ws)
+  where
+    by_ids : (ls : List ℕ) (o : Part (List ℕ)) → (o >>= λ hs. whole (with_first i (both_lists ls hs.0)) hs.1) ≡ mapped (with_first i) (o >>= λ hs. whole (both_lists ls hs.0) hs.1)
+    by_ids ls (Ok m) = whole-mapped (with_first i) (both_lists ls m.0) m.1
+    by_ids ls (Err e) = refl
+
+    by_literals : (o : Part (List ℕ)) → (o >>= λ ls. id_list ls.1 >>= λ hs. whole (with_first i (both_lists ls.0 hs.0)) hs.1)
+        ≡ mapped (with_first i) (o >>= λ ls. id_list ls.1 >>= λ hs. whole (both_lists ls.0 hs.0) hs.1)
+    by_literals (Ok m) = by_ids m.0 (id_list m.1)
+    by_literals (Err e) = refl
+
+pub fault_behind_id_lists : (i : ℕ) (e : LineFault) (a b c : Option (List ℕ)) (p q s : Place) → WhereTold a b (λ t u. ReadsPart own_id (Ok i) p t q u)
+    → WhereTold b c (λ u v. ReadsRest literals_ids_rest (Err e) q u s v) → WhereTold a c (λ t v. ReadsRest id_literals_ids_rest (Err e) p t s v)
+unfolding lists_behind
+fault_behind_id_lists i e a b c p q s h k = told_then a b c _ _ _ h k (λ t u v m j.
+    rest_then own_id (λ i ws. literal_list ws >>= λ ls. id_list ls.1 >>= λ hs. whole (with_first i (both_lists ls.0 hs.0)) hs.1) i (Err e) p q s t u v m
+    (mapped_err (with_first i) literals_ids_rest (lists_behind i) (lists_mapped i) e q s u v j))

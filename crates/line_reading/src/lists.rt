@@ -1,0 +1,89 @@
+// The parts of lines: the letter, lists of literals and of ids, the line's own id, and the status.
+ghost use Rattle.std.specs.Prelude.{◌≡◌, ◌≤◌, IsErrOf};
+ghost use Rattle.outside.specs.Faults.{Rose};
+ghost use Rattle.session_rules.specs.declared.LineFault.{LineFault};
+ghost use Rattle.session_rules.specs.Reading.{literal_list, id_list, own_id, status_word};
+ghost use Rattle.slice_tokens.specs.Place.{ahead, WhereTold};
+ghost use Rattle.line_reading.specs.Parts.{ReadsPart, Stays};
+
+use crate::kinds::{IdWords, LiteralWords, OwnIdWords, StatusWords};
+use crate::words::next_word;
+use lits::Lits;
+use outside::Source;
+use session_rules::{Id, Ids, LineFault, StatusWord};
+use slice_tokens::Window;
+use std::alloc::Global;
+
+/// Literals up to the 0 that ends their list.
+pub fn read_literals<S: Source>(
+    alloc: Global,
+    window: &mut Window,
+    src: &mut S,
+) -> Result<Lits, LineFault>
+    ensures stays { Stays window.old window.new }
+    ensures told { WhereTold (ahead window.old (S.left src.old)) (ahead window.new (S.left src.new))
+        (λ bytes rest. ReadsPart literal_list result window.old bytes window.new rest) }
+    ensures count { S.faults src.old ≤ S.faults src.new }
+    ensures read { IsErrOf result LineFault.Read → Rose (S.faults src.old) (S.faults src.new) }
+{
+    let mut lits = Lits::new(alloc);
+    'literals: loop {
+        match next_word::<S, LiteralWords>(window, src) {
+            Ok(Some(l)) => {
+                if lits.push(l).is_err() {
+                    return Err(LineFault::Memory);
+                }
+            }
+            Ok(None) => return Ok(lits),
+            Err(fault) => return Err(fault),
+        }
+    }
+}
+
+/// Ids up to the 0 that ends their list.
+pub fn read_ids<S: Source>(
+    alloc: Global,
+    window: &mut Window,
+    src: &mut S,
+) -> Result<Ids, LineFault>
+    ensures stays { Stays window.old window.new }
+    ensures told { WhereTold (ahead window.old (S.left src.old)) (ahead window.new (S.left src.new))
+        (λ bytes rest. ReadsPart id_list result window.old bytes window.new rest) }
+    ensures count { S.faults src.old ≤ S.faults src.new }
+    ensures read { IsErrOf result LineFault.Read → Rose (S.faults src.old) (S.faults src.new) }
+{
+    let mut ids = Ids::new(alloc);
+    'ids: loop {
+        match next_word::<S, IdWords>(window, src) {
+            Ok(Some(id)) => {
+                if ids.push(id).is_err() {
+                    return Err(LineFault::Memory);
+                }
+            }
+            Ok(None) => return Ok(ids),
+            Err(fault) => return Err(fault),
+        }
+    }
+}
+
+/// The line's own id, which isn't 0.
+pub fn read_id<S: Source>(window: &mut Window, src: &mut S) -> Result<Id, LineFault>
+    ensures stays { Stays window.old window.new }
+    ensures told { WhereTold (ahead window.old (S.left src.old)) (ahead window.new (S.left src.new))
+        (λ bytes rest. ReadsPart own_id result window.old bytes window.new rest) }
+    ensures count { S.faults src.old ≤ S.faults src.new }
+    ensures read { IsErrOf result LineFault.Read → Rose (S.faults src.old) (S.faults src.new) }
+{
+    next_word::<S, OwnIdWords>(window, src)
+}
+
+/// A status.
+pub fn read_status<S: Source>(window: &mut Window, src: &mut S) -> Result<StatusWord, LineFault>
+    ensures stays { Stays window.old window.new }
+    ensures told { WhereTold (ahead window.old (S.left src.old)) (ahead window.new (S.left src.new))
+        (λ bytes rest. ReadsPart status_word result window.old bytes window.new rest) }
+    ensures count { S.faults src.old ≤ S.faults src.new }
+    ensures read { IsErrOf result LineFault.Read → Rose (S.faults src.old) (S.faults src.new) }
+{
+    next_word::<S, StatusWords>(window, src)
+}

@@ -1,0 +1,83 @@
+// The kinds of words that stand in lines, and the reading of the next word as one of a kind.
+ghost use Rattle.std.specs.Prelude.{◌≡◌, ℕ, ◌<◌, ◌≤◌, List, IfOk, IsErrOf};
+ghost use Rattle.std.specs.declared.result.Result.{Result};
+ghost use Rattle.outside.specs.Faults.{Rose};
+ghost use Rattle.session_rules.specs.declared.Rule.{Rule};
+ghost use Rattle.session_rules.specs.declared.LineFault.{LineFault};
+ghost use Rattle.slice_tokens.specs.Place.{ahead, WhereTold};
+ghost use Rattle.line_reading.specs.Parts.{ReadsPart, EndsLine, Stays, word_part, line_fault_of};
+
+use outside::Source;
+use session_rules::{LineFault, Rule};
+use slice_tokens::{Token, TokenFault, Window};
+
+/// A kind of words: what a word of it says, and the rules that a missing and a wrong word break.
+pub trait WordKind {
+    type Value: Drop;
+
+    /// What a word says, or the rule that it breaks.
+    ghost says: { List ℕ → Result Self.Value Rule };
+
+    /// The rule that a line breaks which ends where the word is due.
+    ghost missing: { Rule };
+
+    /// The rule that a word of more than 32 bytes breaks.
+    ghost long: { Rule };
+
+    fn read(word: &[u8]) -> Result<Self::Value, Rule>
+        ensures { result ≡ says word.now };
+
+    fn missing() -> Rule
+        ensures { result ≡ missing };
+
+    fn long() -> Rule
+        ensures { result ≡ long };
+}
+
+// A fault of the window, where a word that is too long breaks this rule.
+fn line_fault(fault: TokenFault, long: Rule) -> LineFault
+    ensures { result ≡ line_fault_of long fault }
+{
+    match fault {
+        TokenFault::Read => LineFault::Read,
+        TokenFault::LongWord => LineFault::Syntax(long),
+        TokenFault::Length => LineFault::Syntax(Rule::Length),
+    }
+}
+
+/// The next word of the line, as one of the kind. A word that is too long is not taken off the line.
+pub fn next_word<S: Source, K: WordKind>(
+    window: &mut Window,
+    src: &mut S,
+) -> Result<K::Value, LineFault>
+    ensures stays { Stays window.old window.new }
+    ensures progress { IfOk result (λ _. window.old.passed < window.new.passed) }
+    ensures told { WhereTold (ahead window.old (S.left src.old)) (ahead window.new (S.left src.new))
+        (λ bytes rest. ReadsPart (word_part K.says K.missing K.long) result window.old bytes window.new rest) }
+    ensures count { S.faults src.old ≤ S.faults src.new }
+    ensures read { IsErrOf result LineFault.Read → Rose (S.faults src.old) (S.faults src.new) }
+{
+    match window.next(src) {
+        Ok(Token::Word(word)) => match K::read(word) {
+            Ok(value) => Ok(value),
+            Err(rule) => Err(LineFault::Syntax(rule)),
+        },
+        Ok(Token::LineEnd) => Err(LineFault::Syntax(K::missing())),
+        Err(fault) => Err(line_fault(fault, K::long())),
+    }
+}
+
+/// The line's end; any further word, however long, breaks Excess.
+pub fn end_line<S: Source>(window: &mut Window, src: &mut S) -> Result<(), LineFault>
+    ensures stays { Stays window.old window.new }
+    ensures told { WhereTold (ahead window.old (S.left src.old)) (ahead window.new (S.left src.new))
+        (λ bytes rest. EndsLine result window.old bytes window.new rest) }
+    ensures count { S.faults src.old ≤ S.faults src.new }
+    ensures read { IsErrOf result LineFault.Read → Rose (S.faults src.old) (S.faults src.new) }
+{
+    match window.next(src) {
+        Ok(Token::Word(_)) => Err(LineFault::Syntax(Rule::Excess)),
+        Ok(Token::LineEnd) => Ok(()),
+        Err(fault) => Err(line_fault(fault, Rule::Excess)),
+    }
+}

@@ -1,0 +1,2 @@
+pub mod RowsMap
+pub mod Slots

@@ -1,0 +1,10 @@
+pub mod Joined
+pub mod Extending
+pub mod Keeping
+pub mod Taking
+pub mod Needing
+pub mod Indexing
+pub mod Steps
+pub mod Marking
+pub mod Splitting
+pub mod Unwanted

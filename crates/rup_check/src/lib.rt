@@ -1,0 +1,110 @@
+//! Whether literals are refuted by unit propagation.
+#![tactic(auto)]
+
+ghost use Rattle.std.specs.Prelude.{◌≡◌, ℕ, ◌≤◌, List, ◌++◌, Contains, All, IsTrue, Bool, true, false, None, IfOk, OnErr, is_some};
+ghost use Rattle.lits.specs.Literal.{var, neg};
+ghost use Rattle.session_rules.specs.Logic as logic;
+ghost use Rattle.propagation.specs.declared.Step.{Step};
+ghost use Rattle.propagation.specs.Clauses.{active, active_at, slot_of};
+ghost use Rattle.propagation.specs.Engine.{literals, level_after, Grows, IsEngine, IsFalseAt, ReasonsAre, IsOnce};
+ghost use Rattle.rup_check.specs.Assuming.{Assumes, EndsAt};
+
+use clause_store::Slot;
+use lits::Lit;
+use propagation::Engine;
+use std::alloc::{AllocError, Global};
+
+/// Whether there is a closing sequence of the active clauses from these literals.
+pub fn closes(engine: &mut Engine, start: &[Lit]) -> bool
+    requires level { level_after engine.old.trail ≡ 0 }
+    requires reserved { (l : ℕ) → Contains start.now l → var l ≤ engine.old.vars }
+    ensures sound { IsTrue result → logic.Closes (active engine.old.clauses) start.now }
+    ensures complete { logic.Closes (active engine.old.clauses) start.now → IsTrue result }
+    ensures frame { Grows engine.old engine.new }
+{
+    if engine.propagate().is_some() {
+        return true;
+    }
+    let closed = assume_each(engine, start) || engine.propagate().is_some();
+    engine.back_to(0);
+    closed
+}
+
+/// Assumes each of the literals that is free, until one is false.
+fn assume_each(engine: &mut Engine, start: &[Lit]) -> bool
+    requires { (l : ℕ) → Contains start.now l → var l ≤ engine.old.vars }
+    ensures assumed { Assumes start.now engine.old engine.new }
+    ensures engine { IsTrue result → IsEngine engine.new }
+    ensures opposite { IsTrue result → (l : ℕ) × Contains start.now l × IsTrue (logic.has (literals engine.new.trail) (neg l)) }
+    ensures each { result ≡ false → (l : ℕ) → Contains start.now l → IsTrue (logic.has (literals engine.new.trail) l) }
+{
+    for l in start {
+        match engine.value(*l) {
+            Some(true) => {}
+            Some(false) => return true,
+            None => engine.assume(*l),
+        }
+    }
+    false
+}
+
+/// The ids of the reasons along the trail.
+fn reasons(alloc: Global, engine: &Engine) -> Result<Vec<u64>, AllocError>
+    ensures { IfOk result (λ v. ReasonsAre engine.now.clauses engine.now.trail v.items) }
+{
+    let mut ids = Vec::new(alloc);
+    for l in engine.trail() {
+        if let Some(slot) = engine.reason(*l) {
+            ids.push(engine.store().id_of(slot))?;
+        }
+    }
+    Ok(ids)
+}
+
+/// These, and the id of a false clause.
+fn conflict(alloc: Global, engine: &Engine, slot: Slot) -> Result<Vec<u64>, AllocError>
+    requires { IsFalseAt engine.now slot }
+    ensures { IfOk result (λ v. EndsAt engine.now slot v.items) }
+{
+    let mut ids = reasons(alloc, engine)?;
+    ids.push(engine.store().id_of(slot))?;
+    Ok(ids)
+}
+
+/// As `closes`, with hints that close.
+pub fn closes_with(
+    engine: &mut Engine,
+    start: &[Lit],
+    hints: &mut Vec<u64>,
+) -> Result<bool, AllocError>
+    requires level { level_after engine.old.trail ≡ 0 }
+    requires reserved { (l : ℕ) → Contains start.now l → var l ≤ engine.old.vars }
+    ensures closed { IfOk result (λ b. IsTrue b → logic.hints_fail (active_at engine.old.clauses) start.now hints.new.items ≡ None) }
+    ensures once { IfOk result (λ b. IsTrue b → IsOnce hints.new.items) }
+    ensures active { IfOk result (λ b. IsTrue b → (id : ℕ) → IsTrue (logic.has hints.new.items id) → IsTrue (is_some (slot_of engine.old.clauses id))) }
+    ensures complete { IfOk result (λ b. b ≡ false → logic.Closes (active engine.old.clauses) start.now → ⊥) }
+    ensures kept { IfOk result (λ b. b ≡ false → hints.new.items ≡ hints.old.items) }
+    ensures err { OnErr result (hints.new.items ≡ hints.old.items) }
+    ensures frame { Grows engine.old engine.new }
+{
+    let alloc = *hints.allocator();
+    if let Some(slot) = engine.propagate() {
+        let found = conflict(alloc, engine, slot)?;
+        *hints = found;
+        return Ok(true);
+    }
+    if assume_each(engine, start) {
+        let found = reasons(alloc, engine);
+        engine.back_to(0);
+        *hints = found?;
+        return Ok(true);
+    }
+    if let Some(slot) = engine.propagate() {
+        let found = conflict(alloc, engine, slot);
+        engine.back_to(0);
+        *hints = found?;
+        return Ok(true);
+    }
+    engine.back_to(0);
+    Ok(false)
+}

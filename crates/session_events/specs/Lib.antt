@@ -1,0 +1,4 @@
+pub mod State
+pub mod Pieces
+pub mod Marks
+pub mod Kept

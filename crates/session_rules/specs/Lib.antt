@@ -1,0 +1,11 @@
+pub mod Logic
+pub mod Lines
+pub mod Reading
+pub mod Spelling
+pub mod WrongWord
+pub mod History
+pub mod Own
+pub mod Pair
+pub mod Verdicts
+pub mod Numbers
+pub mod Telling

@@ -1,0 +1,12 @@
+pub mod Buffer
+pub mod Ahead
+pub mod Texts
+pub mod Rows
+pub mod Places
+pub mod Finding
+pub mod Callers
+pub mod Told
+pub mod Skipping
+pub mod Ending
+pub mod LineEnd
+pub mod Examples

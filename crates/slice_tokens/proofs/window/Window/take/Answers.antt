@@ -1,0 +1,18 @@
+use Rattle.std.proofs.Common.{ℕ, ◌+◌, ◌-◌, ◌≤◌, List, length, take, drop, refl, ap, ◌∙◌, arith}
+use Rattle.slice_tokens.specs.Place.{Place}
+use Rattle.slice_tokens.proofs.Buffer.{length-held, held_after, held_front}
+use Rattle.slice_tokens.proofs.window.Window.take.Goals as goal
+
+pub returns : goal.returns
+returns c =
+    let w = c.self.inside in
+    let n = c.args.count in
+    let xs = w.buf.items.items in
+    let held = length-held xs w.start w.end c.self.invariant.ordered c.self.invariant.within in
+    let here : w.start + n ≤ w.end = omega (arith, held, ap (λ p. length p.held) c.self.view_is, c.requires.here) in (
+      (refl, λ _. tt, rw (← c.self.view_is) (ap (λ (h : List ℕ). let p : Place = record { held = h; ended = w.ended; passed = w.passed + n; line = w.line; standing = w.standing } in p) (held_after xs w.start w.end n here))),
+      record {
+        word = ap (λ l. take (w.start + n - w.start) (drop w.start l)) c.deref.ensures.value ∙ held_front xs w.start w.end n here ∙ ap (λ p. take n p.held) c.self.view_is;
+        after = tt;
+      },
+    )

@@ -1,0 +1,4 @@
+pub mod Place
+pub mod Due
+pub mod Calls
+pub mod Held
