@@ -1,0 +1,9 @@
+use Rattle.session_rules.specs.declared.LStep.TheVariants as lsteps
+use Rattle.session_rules.specs.declared.Standing.TheVariants.{Active}
+use Rattle.session_rules.specs.Own.{is_weakened}
+use Rattle.side_laws.specs.Kept.{clauses_of_store}
+use Rattle.side_laws.proofs.Turns.{Went}
+use Rattle.pair_matcher.proofs.turns.restore_each.Given as goal
+
+abbrev pub invariant-loop-i : goal.invariant-loop-i
+invariant-loop-i l = Went lsteps.Restore is_weakened Active (clauses_of_store l.fn.store) (clauses_of_store l.store) l.ids l.i

@@ -1,0 +1,25 @@
+-- What holds inside the sides.
+use Rattle.std.specs.Prelude.{◌≡◌, ℕ, ◌≤◌, List, Contains, All, is_some}
+use Rattle.lits.specs.Literal.{max_var, var}
+use Rattle.clause_store.specs.Clauses.{Store}
+use Rattle.propagation.specs.Clauses.{Clause}
+use Rattle.propagation.specs.Engine.{EngineView}
+use Rattle.side_laws.specs.Kept.{Kept, Clauses, kept, kept_by, clauses_of_store, AreWithin}
+use Rattle.session_events.specs.State.{State}
+
+-- the hint rule has room for all variables, those of the clauses and those that the events reserved
+pub record IsInside (m : Store) (s : State) (vars : ℕ) : Type 0 where
+  pub clauses : AreWithin (clauses_of_store m) vars
+  pub events : s.reserved ≤ vars
+
+-- the variables of the literals are at most this one
+abbrev pub AreBelow : List ℕ → ℕ → Type 0
+AreBelow ls vars = All (λ l. var l ≤ vars) ls
+
+-- what is seen of a clause of an engine
+abbrev pub kept_of_clause : Clause → Kept
+kept_of_clause c = kept (is_some c.slot) c.literals
+
+-- the clauses of an engine
+abbrev pub clauses_of_engine : EngineView → Clauses
+clauses_of_engine e = kept_by kept_of_clause e.clauses

@@ -1,0 +1,77 @@
+-- What callers see of the two sides of a check, and when a side stands for a list of steps.
+use Rattle.std.specs.Prelude.{◌≡◌, ℕ, Bool, true, false, nat_le, length, List, [], ◌∷◌, ◌++◌, Option, None, Some, IfNone}
+use Rattle.session_rules.specs.declared.Rule.{Rule}
+use Rattle.session_rules.specs.declared.LStep.{LStep}
+use Rattle.session_rules.specs.declared.LStep.TheVariants as lsteps
+use Rattle.session_rules.specs.declared.Event.TheVariants as events
+use Rattle.session_rules.specs.declared.Step.{Step}
+use Rattle.session_rules.specs.declared.Step.TheVariants as steps
+use Rattle.session_rules.specs.Own.{events_of, own_faults, id_events_of, own_id_faults}
+use Rattle.side_laws.specs.Kept.{Clauses}
+use Rattle.side_laws.specs.Ids.{HoldsIds}
+use Rattle.side_laws.specs.Sets.{HoldsSets}
+use Rattle.session_events.specs.State.{State}
+use Rattle.session_events.specs.State as state
+
+-- the first of the rules that a step breaks
+abbrev pub first_rule : List Rule → Option Rule
+first_rule [] = None
+first_rule (r ∷ rs) = Some r
+
+-- ---- With ids
+
+-- a side of proofs with ids: whether it is live, its clauses by id, and what its events say
+pub record LidrupView : Type 0 where
+  pub live : Bool
+  pub clauses : Clauses
+  pub events : State
+
+-- the clauses, the phase, the assumptions and the inputs are those that these steps leave
+pub record AreAfterIds (m : Clauses) (s : State) (ps : List LStep) : Type 0 where
+  pub clauses : HoldsIds m ps
+  pub events : state.StandsFor s (id_events_of ps)
+
+-- the side stands for these steps
+abbrev pub StandsForIds : LidrupView → List LStep → Type 0
+StandsForIds v ps = AreAfterIds v.clauses v.events ps
+
+-- the step was judged. Whatever steps the side stood for: the answer is the first own rule that the step breaks behind them, and
+-- where there is none the side stands for the steps with this one at their end
+pub record JudgedId (m : Clauses) (s : State) (n : Clauses) (t : State) (step : LStep) (answer : Option Rule) : Type 0 where
+  pub rule : (ps : List LStep) → AreAfterIds m s ps → answer ≡ first_rule (own_id_faults ps step)
+  pub stands : IfNone answer ((ps : List LStep) → AreAfterIds m s ps → AreAfterIds n t (ps ++ step ∷ []))
+
+-- the steps that take no memory: a status and a deletion
+abbrev pub takes_no_memory : LStep → Bool
+takes_no_memory (lsteps.Status word) = true
+takes_no_memory (lsteps.Delete ids) = true
+takes_no_memory _ = false
+
+-- ---- Without ids
+
+-- a side of proofs without ids: whether it is live, its clauses by the ids that it gave, the next id, and what its events say
+pub record IdrupView : Type 0 where
+  pub live : Bool
+  pub clauses : Clauses
+  pub next : ℕ
+  pub events : State
+
+-- the clauses, the next id, the phase, the assumptions and the inputs are those that these steps leave
+pub record AreAfter (m : Clauses) (next : ℕ) (s : State) (ps : List Step) : Type 0 where
+  pub clauses : HoldsSets m next ps
+  pub events : state.StandsFor s (events_of ps)
+
+-- the side stands for these steps
+abbrev pub StandsFor : IdrupView → List Step → Type 0
+StandsFor v ps = AreAfter v.clauses v.next v.events ps
+
+-- the step was judged, as with ids
+pub record Judged (m : Clauses) (next : ℕ) (s : State) (n : Clauses) (after : ℕ) (t : State) (step : Step) (answer : Option Rule) : Type 0 where
+  pub rule : (ps : List Step) → AreAfter m next s ps → answer ≡ first_rule (own_faults ps step)
+  pub stands : IfNone answer ((ps : List Step) → AreAfter m next s ps → AreAfter n after t (ps ++ step ∷ []))
+
+-- the steps without ids that take no memory: a status, and a deletion of at most so many literals as a set holds without memory
+abbrev pub is_frugal : Step → Bool
+is_frugal (steps.Event (events.Status word)) = true
+is_frugal (steps.Delete c) = nat_le (length c) 16
+is_frugal _ = false
