@@ -175,7 +175,7 @@ ascends-once (l ∷ ls) h = (false_from_ne_true _ (λ e. omega (arith, h.0 l (ha
 once-set_of : (ls : List ℕ) → IsOnce (set_of ls)
 once-set_of ls = ascends-once (set_of ls) (ascends_set_of ls)
 
-size-once : (ls : List ℕ) → IsOnce ls → length (set_of ls) ≡ length ls
+pub size-once : (ls : List ℕ) → IsOnce ls → length (set_of ls) ≡ length ls
 size-once ls o =
     let a = once-le (set_of ls) ls (once-set_of ls) (λ q m. sym (has-set_of ls q) ∙ m) in
     let b = once-le ls (set_of ls) o (λ q m. has-set_of ls q ∙ m) in omega (arith, a, b)

@@ -37,7 +37,7 @@ pub get-store_of : (pool : Entries) (es : List (ℕ × Kept)) (q : ℕ) → get 
 unfolding store_of
 get-store_of pool es q = get-from_entries nat_cmp_total _ q ∙ find-map pool es q
 
-same : (m n : Store) → ((q : ℕ) → get m q ≡ get n q) → m ≡ n
+pub same : (m n : Store) → ((q : ℕ) → get m q ≡ get n q) → m ≡ n
 same m n h = same_map nat_cmp_total nat_cmp-IsAntisymmetric m n h
 
 pub store_of-nil : (pool : Entries) → store_of pool [] ≡ empty
@@ -54,13 +54,13 @@ inside-nil pool a w ids e f = record {
 ids_apart : (a b : ℕ) → nat_eq a b ≡ false → nat_eq b a ≡ false
 ids_apart a b h = grind (arith, nat_tests)
 
-get_put : (m : Store) (id : ℕ) (h : Held) (q : ℕ) → get (insert m id h) q ≡ cond (nat_eq id q) (Some h) (get m q)
+pub get_put : (m : Store) (id : ℕ) (h : Held) (q : ℕ) → get (insert m id h) q ≡ cond (nat_eq id q) (Some h) (get m q)
 get_put m id h q = get-insert nat_cmp_total m id h q ∙ ap (λ b. cond b (Some h) (get m q)) (unsigned_tied q id ∙ flip q id)
   where
     flip : (q id : ℕ) → nat_eq q id ≡ nat_eq id q
     flip q id = grind (arith, nat_tests)
 
-get_cut : (m : Store) (id q : ℕ) → get (remove m id) q ≡ cond (nat_eq id q) None (get m q)
+pub get_cut : (m : Store) (id q : ℕ) → get (remove m id) q ≡ cond (nat_eq id q) None (get m q)
 get_cut m id q = get-remove nat_cmp_total m id q ∙ ap (λ b. cond b None (get m q)) (unsigned_tied q id ∙ flip q id)
   where
     flip : (q id : ℕ) → nat_eq q id ≡ nat_eq id q
@@ -166,7 +166,7 @@ pub inside-noted : (p : Entries) (es : List (ℕ × Kept)) (a w : BTreeSet (ℕ 
 inside-noted p es a w ids ids' s h dead note = record { rows = rows-noted p es ids ids' s h.rows dead note; active_index = h.active_index; weakened_index = h.weakened_index }
 
 -- rows with one put, where the entries of the others stay
-rows_put : (p p' : Entries) (es es' : List (ℕ × Kept)) (ids : List ℕ) (id : ℕ) (k : Kept)
+pub rows_put : (p p' : Entries) (es es' : List (ℕ × Kept)) (ids : List ℕ) (id : ℕ) (k : Kept)
     → ((q : ℕ) → row es' q ≡ cond (nat_eq id q) (Some k) (row es q))
     → ((q : ℕ) (r : Kept) → nat_eq id q ≡ false → row es q ≡ Some r → get p' r.slot ≡ get p r.slot)
     → IsRow (get p' k.slot) ids id k → AreRows p ids es → AreRows p' ids es'
@@ -310,7 +310,7 @@ lits_at-row p es q s e =
 pub pooled : (p : Entries) (es : List (ℕ × Kept)) (ids : List ℕ) → AreRows p ids es → ArePooled p es
 pooled p es ids h = λ q k e. let r = h q k e in (r.live, r.once)
 
-set_of_set : (ls : List ℕ) → set_of (set_of ls) ≡ set_of ls
+pub set_of_set : (ls : List ℕ) → set_of (set_of ls) ≡ set_of ls
 set_of_set ls = sym (set_of-unique (set_of ls) (set_of ls) (ascends_set_of ls) (λ l. refl))
 
 pub is_store : (p : Entries) (es : List (ℕ × Kept)) (ids : List ℕ) → AreRows p ids es → IsStore (store_of p es)

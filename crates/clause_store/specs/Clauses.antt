@@ -1,9 +1,11 @@
 -- What callers see of a store: a finite map from ids to clauses.
-use Rattle.std.specs.Prelude.{◌≡◌, ◌≢◌, ℕ, Bool, not, false, ◌&&◌, List, [], ◌∷◌, Option, None, Some, ◌++◌, if◌then◌else◌, IsTrue, is_some, is_none, unwrap_or, option_and_then, option_map, refl}
+use Rattle.std.specs.Prelude.{◌≡◌, ◌≢◌, ℕ, Bool, not, false, ◌&&◌, List, [], ◌∷◌, Option, None, Some, ◌++◌, if◌then◌else◌, IsTrue, is_some, is_none, unwrap_or, option_and_then, option_map, swap, refl}
 use Rattle.std.specs.Ordering.{nat_cmp}
 use Rattle.std.specs.FinMap as finmap
 use Rattle.std.specs.Coded.{Coded, code_by, coded×, coded_list, coded_option, coded_ℕ}
 use Rattle.lits.specs.Clause.{has, set_of}
+use Rattle.lit_pool.specs.declared.Which.{Which}
+use Rattle.lit_pool.specs.declared.Which.TheVariants.{One, Two}
 
 -- what an active clause has besides its set: its slot, its literals in some order, and its links
 pub record Place : Type 0 where
@@ -98,6 +100,40 @@ new_clause ls s = active_clause (set_of ls) (firsts ls) s
 -- a weakened clause of this set
 abbrev pub weakened_clause : List ℕ → Held
 weakened_clause set = record { literals = set; place = None }
+
+-- the clause of an id, an empty weakened one where the id is free
+abbrev pub clause_at : Store → ℕ → Held
+clause_at m id = unwrap_or (finmap.get m id) (weakened_clause [])
+
+-- a link of a place
+abbrev pub place_link : Which → Place → Option ℕ
+place_link One p = p.one
+place_link Two p = p.two
+
+-- a link of an active clause, none where the id isn't active
+abbrev pub link_at : Store → ℕ → Which → Option ℕ
+link_at m id which = option_and_then (place_link which) (place_at m id)
+
+-- a place with one link changed
+abbrev pub relinked : Which → Option ℕ → Place → Place
+relinked One to p = record { slot = p.slot; lits = p.lits; one = to; two = p.two }
+relinked Two to p = record { slot = p.slot; lits = p.lits; one = p.one; two = to }
+
+-- a place with two literals of its list exchanged
+abbrev pub swapped : ℕ → ℕ → Place → Place
+swapped a b p = record { slot = p.slot; lits = swap p.lits a b; one = p.one; two = p.two }
+
+-- a clause with its place changed, if it has one
+abbrev pub with_place : (Place → Place) → Held → Held
+with_place f h = record { literals = h.literals; place = option_map f h.place }
+
+-- the clauses with two literals of one's list exchanged
+abbrev pub with_swap : Store → ℕ → ℕ → ℕ → Store
+with_swap m id a b = finmap.insert m id (with_place (swapped a b) (clause_at m id))
+
+-- the clauses with a link of one changed
+abbrev pub with_link : Store → ℕ → Which → Option ℕ → Store
+with_link m id which to = finmap.insert m id (with_place (relinked which to) (clause_at m id))
 
 -- the weakened clause is active again, at a slot that no active clause had, with each of its literals once and no links
 pub record IsRestored (old : Store) (id : ℕ) (new : Store) : Type 0 where

@@ -3,9 +3,9 @@
 //! found through ordered pairs of the set's key and an id, so the least id of a set is the first that is met.
 #![tactic(auto)]
 
-ghost use Rattle.std.specs.Prelude.{◌≡◌, ℕ, ◌≤◌, List, OnOk, IfOk, IfErr, IfSome, IfNone, IsTrue, true, false, Some, None};
+ghost use Rattle.std.specs.Prelude.{◌≡◌, ℕ, ◌<◌, ◌≤◌, List, length, OnOk, IfOk, IfErr, IfSome, IfNone, IsTrue, true, false, Some, None};
 ghost use Rattle.std.specs.FinMap as finmap;
-ghost use Rattle.clause_store.specs.Clauses.{slot_at, lits_at, is_active, is_weakened, is_held, IsSlot, IsFresh, IsActiveWith, IsWeakenedWith, IsRestored, literals_at, new_clause, weakened_clause, IsStore};
+ghost use Rattle.clause_store.specs.Clauses.{slot_at, lits_at, is_active, is_weakened, is_held, IsSlot, IsFresh, IsActiveWith, IsWeakenedWith, IsRestored, literals_at, link_at, new_clause, weakened_clause, with_link, with_swap, IsStore};
 ghost use Rattle.clause_store.specs.declared.StoreFault.TheVariants as fault;
 
 use lit_pool::Pool;
@@ -158,9 +158,25 @@ impl Store {
         ensures held { IfErr result (λ e. is_weakened self.old id ≡ false → e ≡ fault.NotWeakened) }
         ensures memory { IfErr result (λ e. IsTrue (is_weakened self.old id) → e ≡ fault.Memory) }
     {
+        self.restore_below(id, u64::MAX)
+    }
+
+    /// Restores a clause as `restore` does, at a slot whose number is below an end: one who keeps a table by slots has room
+    /// for it. Memory also comes where the clause's slot isn't below the end.
+    pub fn restore_below(&mut self, id: u64, end: u64) -> Result<(), StoreFault>
+        ensures ok { IfOk result (λ _. IsRestored self.old id self.new) }
+        ensures below { IfOk result (λ _. (s : ℕ) → slot_at self.new id ≡ Some s → s < end) }
+        ensures weakened { IfOk result (λ _. IsTrue (is_weakened self.old id)) }
+        ensures err { IfErr result (λ _. self.new ≡ self.old) }
+        ensures held { IfErr result (λ e. is_weakened self.old id ≡ false → e ≡ fault.NotWeakened) }
+        ensures memory { IfErr result (λ e. IsTrue (is_weakened self.old id) → e ≡ fault.Memory) }
+    {
         let Some(slot) = rows::weakened_slot(&self.clauses, id) else {
             return Err(StoreFault::NotWeakened);
         };
+        if slot.number() >= end {
+            return Err(StoreFault::Memory);
+        }
         if rows::switch(
             &mut self.weakened,
             &mut self.active,
@@ -218,69 +234,34 @@ impl Store {
     {
         self.pool.lits(s)
     }
+
+    /// Exchanges two places of the list of the active clause at this slot, counted from 0. Its set, its slot, its links and
+    /// all other clauses stay.
+    pub fn swap(&mut self, s: Slot, a: usize, b: usize)
+        requires slot { IsSlot self.old s }
+        requires a_in_bounds { (id : ℕ) → slot_at self.old id ≡ Some s → a < length (lits_at self.old id) }
+        requires b_in_bounds { (id : ℕ) → slot_at self.old id ≡ Some s → b < length (lits_at self.old id) }
+        ensures { (id : ℕ) → slot_at self.old id ≡ Some s → self.new ≡ with_swap self.old id a b }
+    {
+        self.pool.swap(s, a, b);
+    }
+
+    /// One of the links of the active clause at this slot.
+    pub fn link(&self, s: Slot, which: Which) -> Option<Slot>
+        requires { IsSlot self.now s }
+        ensures { (id : ℕ) → slot_at self.now id ≡ Some s → result ≡ link_at self.now id which }
+    {
+        self.pool.link(s, which)
+    }
+
+    /// Sets one of the links of the active clause at this slot, to any slot or to none. All else stays.
+    pub fn set_link(&mut self, s: Slot, which: Which, to: Option<Slot>)
+        requires { IsSlot self.old s }
+        ensures { (id : ℕ) → slot_at self.old id ≡ Some s → self.new ≡ with_link self.old id which to }
+    {
+        self.pool.set_link(s, which, to);
+    }
 }
 
 #[cfg(test)]
-mod tests {
-    use super::*;
-    use std::process::Abort;
-    use std::test::Fail;
-
-    fn lit(n: i64) -> Result<Lit, Fail> {
-        Ok(Lit::new(n).ok_or("no literal")?)
-    }
-
-    fn set(alloc: Global, lits: &[Lit]) -> Result<LitSet, Fail> {
-        LitSet::of(alloc, lits).map_err(|_| Fail::from("no memory"))
-    }
-
-    #[test]
-    fn clauses_are_added_weakened_restored_and_deleted(rt: HostRuntime) -> Result<(), Fail> {
-        let lits = [lit(2)?, lit(-1)?, lit(2)?];
-        let mut store = Store::new(rt.alloc());
-        let slot = store.add(7, &lits).ok();
-        assert!(rt; slot.is_some());
-        assert!(rt; store.find(7) == slot);
-        assert!(rt; store.add(7, &lits) == Err(StoreFault::IdTaken));
-        assert!(rt; store.restore(7) == Err(StoreFault::NotWeakened));
-        assert!(rt; store.weaken(7) == Ok(()));
-        assert!(rt; store.find(7).is_none());
-        assert!(rt; store.delete(7) == Err(StoreFault::NotActive));
-        assert!(rt; store.restore(7) == Ok(()));
-        assert!(rt; store.delete(7) == Ok(()));
-        assert!(rt; store.find(7).is_none());
-        Ok(())
-    }
-
-    #[test]
-    fn the_least_id_of_a_set_is_found(rt: HostRuntime) -> Result<(), Fail> {
-        let one = set(rt.alloc(), &[lit(1)?, lit(-2)?])?;
-        let mut store = Store::new(rt.alloc());
-        assert!(rt; store.least_active(&one).is_none());
-        assert!(rt; store.add(9, &[lit(-2)?, lit(1)?]).is_ok());
-        assert!(rt; store.add(4, &[lit(1)?, lit(-2)?, lit(1)?]).is_ok());
-        assert!(rt; store.add(3, &[lit(1)?]).is_ok());
-        assert_eq!(rt; store.least_active(&one), Some(4));
-        assert!(rt; store.weaken(4) == Ok(()));
-        assert_eq!(rt; store.least_active(&one), Some(9));
-        assert_eq!(rt; store.least_weakened(&one), Some(4));
-        Ok(())
-    }
-
-    #[test]
-    fn a_list_has_each_literal_at_its_first_place(rt: HostRuntime) -> Result<(), Fail> {
-        let lits = [lit(2)?, lit(-1)?, lit(2)?, lit(1)?];
-        let mut store = Store::new(rt.alloc());
-        assert!(rt; store.add(1, &[]).is_ok());
-        assert!(rt; store.add(2, &lits).is_ok());
-        if let Some(slot) = store.find(2) {
-            assert_eq!(rt; store.id_of(slot), 2);
-            let kept = store.lits(slot);
-            assert_eq!(rt; kept.len(), 3);
-            assert_eq!(rt; kept[0].number(), 2);
-            assert_eq!(rt; kept[1].number(), -1);
-            assert_eq!(rt; kept[2].number(), 1);
-        }
-        Ok(())
-    }
-}
+mod tests;

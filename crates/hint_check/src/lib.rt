@@ -207,3 +207,6 @@ impl HintCheck {
         run_over(&mut self.marks, &mut self.mark, store, start, hints)
     }
 }
+
+#[cfg(test)]
+mod tests;

@@ -1,5 +1,5 @@
 -- What stands in a line of the interaction behind its letter.
-use Rattle.std.proofs.Common.{◌≡◌, ℕ, List, Ok, Err, refl, ◌∙◌}
+use Rattle.std.proofs.Common.{◌≡◌, ℕ, List, Err, refl, ◌∙◌}
 use Rattle.std.specs.declared.option.Option.{Option}
 use Rattle.session_rules.specs.declared.Letter.{Letter}
 use Rattle.session_rules.specs.declared.Letter.TheVariants as letters

@@ -1,1 +1,5 @@
 pub mod EventLines
+pub mod HeaderWords
+pub mod Marking
+pub mod Finding
+pub mod Pairing

@@ -1,0 +1,4 @@
+pub mod Headers
+pub mod Marks
+pub mod Partners
+pub mod Matching

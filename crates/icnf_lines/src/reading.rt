@@ -1,5 +1,6 @@
 // How the lines of an interaction, and those of a script, are read.
-ghost use Rattle.std.specs.Prelude.{◌≡◌, ◌+◌, ◌≤◌, IsErrOf};
+ghost use Rattle.std.specs.Prelude.{◌≡◌, ◌+◌, ◌<◌, ◌≤◌, IfOk, IsErrOf, IsTrue};
+ghost use Rattle.std.specs.Option.{is_some};
 ghost use Rattle.outside.specs.Faults.{Rose};
 ghost use Rattle.session_rules.specs.declared.LineFault.{LineFault};
 ghost use Rattle.session_rules.specs.Lines.{most_bytes};
@@ -56,6 +57,7 @@ pub fn read_line<S: Source>(
     src: &mut S,
 ) -> Result<Option<Event>, LineFault>
     ensures moves { Moves window.old window.new }
+    ensures progress { IfOk result (λ line. IsTrue (is_some line) → window.old.passed < window.new.passed) }
     ensures told { WhereTold (ahead window.old (S.left src.old)) (ahead window.new (S.left src.new))
         (λ bytes rest. LineAnswers icnf_line window.old bytes window.new rest result) }
     ensures count { S.faults src.old ≤ S.faults src.new }

@@ -1,7 +1,6 @@
 -- A whole line, from its letter and what stands behind it.
-use Rattle.std.proofs.Common.{◌≡◌, ℕ, ◌⊎◌, Bool, true, false, if◌then◌else◌, List, [], ◌∷◌, Some, None, Ok, Err, refl, sym, ap, ◌∙◌, subst, inl, inr}
+use Rattle.std.proofs.Common.{◌≡◌, ℕ, Bool, true, false, if◌then◌else◌, List, [], ◌∷◌, Some, None, Ok, Err, refl, sym, ap, ◌∙◌, subst, inl, inr}
 use mathlib.Core.Path.{fun_ext}
-use Rattle.std.proofs.lemmas.Bool.{cases_Bool}
 use Rattle.std.specs.declared.option.Option.{Option}
 use Rattle.std.specs.declared.result.Result.{Result}
 use Rattle.session_rules.specs.declared.Letter.{Letter}
@@ -12,10 +11,10 @@ use Rattle.session_rules.specs.declared.Rule.TheVariants as rules
 use Rattle.session_rules.specs.declared.LineFault.{LineFault}
 use Rattle.session_rules.specs.declared.LineFault.TheVariants.{Syntax, Read, Memory}
 use Rattle.session_rules.specs.Lines.{Line, judged_words}
-use Rattle.session_rules.specs.Reading.{Fault, wrong, missing, ◌>>=◌, Part, letter_of, by_letter, of_whole_line, of_cut_line, value_of, whole, literal_list, id_list, status_word, of_literals, of_ids, of_status}
+use Rattle.session_rules.specs.Reading.{Fault, wrong, ◌>>=◌, Part, letter_of, by_letter, of_whole_line, of_cut_line, value_of, whole, literal_list, id_list, status_word, of_literals, of_ids, of_status}
 use Rattle.slice_tokens.specs.Place.{Place, WhereTold, present, later}
 use Rattle.slice_tokens.specs.Due.{known_words}
-use Rattle.line_reading.specs.Whole.{of_line, Tells, ReadsRest, literals_rest, ids_rest, status_rest, Says, Breaks, BehindCut, LineAnswers, Entered, NoLetterIn, Unentered, Enters}
+use Rattle.line_reading.specs.Whole.{of_line, Tells, ReadsRest, literals_rest, ids_rest, status_rest, Says, LineAnswers, Entered, NoLetterIn, Enters}
 use Rattle.line_reading.proofs.Collecting.{told_then}
 use Rattle.line_reading.proofs.Resting.{mapped, mapped_ok, mapped_err}
 

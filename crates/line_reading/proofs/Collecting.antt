@@ -21,7 +21,7 @@ use Rattle.session_rules.specs.Reading.{Fault, wrong, missing, Part, literal_lis
 use Rattle.slice_tokens.specs.Place.{Place, WhereTold, ahead, present}
 use Rattle.slice_tokens.specs.Due.{known_words}
 use Rattle.slice_tokens.specs.Calls.{SameLater}
-use Rattle.line_reading.specs.Parts.{fault_rule, PartAnswers, SameLine, ReadsPart, Stays, word_part, word_or_fault}
+use Rattle.line_reading.specs.Parts.{PartAnswers, SameLine, ReadsPart, Stays, word_part, word_or_fault}
 use Rattle.line_reading.specs.Kinds.{literal_says, literal_or_rule, id_says, listed_or_rule, own_id_says, own_or_rule, status_says}
 use Rattle.line_reading.proofs.LongWords.{literal_long, id_long, id_word_long, other_length}
 

@@ -1,5 +1,5 @@
 -- The letter of the line that comes next.
-use Rattle.std.proofs.Common.{◌≡◌, ℕ, ◌<◌, ◌⊎◌, Bool, true, false, nat_lt, if◌then◌else◌, List, [], ◌∷◌, length, Some, None, Ok, Err, refl, sym, ap, ◌∙◌, subst, inl, inr, ltb-true}
+use Rattle.std.proofs.Common.{◌≡◌, ℕ, ◌⊎◌, Bool, true, nat_lt, if◌then◌else◌, List, [], ◌∷◌, length, Some, Ok, Err, refl, sym, ap, ◌∙◌, subst, inl, inr, ltb-true}
 use Rattle.std.proofs.lemmas.Bool.{cases_Bool}
 use Rattle.std.specs.declared.option.Option.{Option}
 use Rattle.std.specs.declared.result.Result.{Result}
@@ -9,18 +9,16 @@ use Rattle.session_rules.specs.declared.Rule.{Rule}
 use Rattle.session_rules.specs.declared.Rule.TheVariants as rules
 use Rattle.session_rules.specs.declared.LineFault.{LineFault}
 use Rattle.session_rules.specs.declared.LineFault.TheVariants.{Syntax, Read, Memory}
-use Rattle.session_rules.specs.Lines.{Line, has_content, judged_words, without_cut_word}
+use Rattle.session_rules.specs.Lines.{has_content, judged_words, without_cut_word}
 use Rattle.session_rules.specs.Reading.{Fault, wrong, missing, letter_of}
-use Rattle.slice_tokens.specs.declared.token.TokenFault.{TokenFault}
-use Rattle.slice_tokens.specs.declared.token.TokenFault.TheVariants as tokens
-use Rattle.slice_tokens.specs.Place.{Place, WhereTold, present, later, is_cut, last_line}
+use Rattle.slice_tokens.specs.Place.{Place, WhereTold, present, later}
 use Rattle.slice_tokens.specs.Due.{known_words}
-use Rattle.slice_tokens.specs.Calls.{InLine, AtEnd, AtBound, OnlyCut, Reaches, SameLater}
-use Rattle.line_reading.specs.Parts.{PartAnswers, fault_rule, ReadsPart, SameLine, word_part, word_or_fault}
+use Rattle.slice_tokens.specs.Calls.{InLine}
+use Rattle.line_reading.specs.Parts.{PartAnswers, fault_rule, ReadsPart, word_part, word_or_fault}
 use Rattle.line_reading.specs.Kinds.{letter_says, letter_or_rule}
 use Rattle.line_reading.proofs.LongWords.{long_letter}
 use Rattle.line_reading.proofs.Collecting.{told_then}
-use Rattle.line_reading.specs.Whole.{Entered, NoLetterIn, Unentered, BehindCut, Enters}
+use Rattle.line_reading.specs.Whole.{Entered, Unentered, Enters}
 
 -- a letter as the first word
 abbrev letter_part : List (List ℕ) → Result (Letter × List (List ℕ)) Fault

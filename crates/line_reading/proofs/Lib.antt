@@ -4,3 +4,5 @@ pub mod Collecting
 pub mod Resting
 pub mod FirstLetter
 pub mod ByLetter
+pub mod AtBounds
+pub mod EndDue

@@ -1,7 +1,7 @@
 -- A word of more than 32 bytes says nothing, whatever its kind.
-use Rattle.std.proofs.Common.{◌≡◌, ℕ, ◌<◌, ◌≤◌, Bool, true, false, ◌&&◌, nat_eq, nat_lt, nat_le, List, [], ◌∷◌, length, Some, None, Ok, Err, codes, refl, sym, ap, ◌∙◌, arith, ne_eqb}
+use Rattle.std.proofs.Common.{◌≡◌, ℕ, ◌<◌, ◌≤◌, Bool, true, false, ◌&&◌, nat_eq, List, [], ◌∷◌, length, Err, codes, refl, arith, ne_eqb}
 use Rattle.std.proofs.lemmas.Bool.{lt-leb}
-use Rattle.lits.specs.Word.{literal_word, id_word, magnitude, numeral, is_zero, is_short}
+use Rattle.lits.specs.Word.{literal_word, id_word, magnitude, is_zero, is_short}
 use Rattle.lits.specs.declared.IdWord.TheVariants as ids
 use Rattle.session_rules.specs.declared.Letter.TheVariants as letters
 use Rattle.session_rules.specs.declared.Rule.TheVariants as rules

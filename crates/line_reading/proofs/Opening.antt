@@ -1,24 +1,21 @@
 -- What is due at a line, by the words that are known.
-use Rattle.std.proofs.Common.{◌≡◌, ℕ, ◌<◌, Bool, true, false, nat_lt, if◌then◌else◌, List, [], ◌∷◌, length, Some, None, Ok, Err, refl, sym, ap, ◌∙◌, subst, inl, inr}
+use Rattle.std.proofs.Common.{◌≡◌, ℕ, Bool, true, false, nat_lt, List, [], ◌∷◌, length, Some, None, Err, refl, sym, ap, subst, inl, inr}
 use Rattle.std.proofs.lemmas.Bool.{cases_Bool}
 use Rattle.std.specs.declared.option.Option.{Option}
 use Rattle.std.specs.declared.result.Result.{Result}
 use Rattle.std.specs.Prelude.{IfSome}
 use Rattle.session_rules.specs.declared.Rule.{Rule}
 use Rattle.session_rules.specs.declared.Rule.TheVariants as rules
-use Rattle.session_rules.specs.declared.LineFault.{LineFault}
-use Rattle.session_rules.specs.Lines.{Line, without_cut_word}
-use Rattle.session_rules.specs.Reading.{wrong}
-use Rattle.slice_tokens.specs.declared.token.Token.{Token}
+use Rattle.session_rules.specs.Lines.{Line}
 use Rattle.slice_tokens.specs.declared.token.TokenFault.{TokenFault}
 use Rattle.slice_tokens.specs.declared.token.TokenFault.TheVariants as tokens
 use Rattle.slice_tokens.specs.Place.{Place, WhereTold, present}
-use Rattle.slice_tokens.specs.Due.{Due, due_word, due_end, due_long, due_cut, due_of, due, known_words}
-use Rattle.slice_tokens.specs.Calls.{without_first, line_after, Answers, SameLater, LeavesLines}
-use Rattle.line_reading.specs.Parts.{PartAnswers, SameLine, ReadsPart, end_fault, EndAnswers, EndsLine, line_fault_of, word_part}
+use Rattle.slice_tokens.specs.Due.{due_word, due_long, due_cut, due_of, due, known_words}
+use Rattle.slice_tokens.specs.Calls.{Answers, LeavesLines}
+use Rattle.line_reading.specs.Parts.{PartAnswers, ReadsPart, end_fault, EndAnswers, EndsLine, line_fault_of, word_part}
 
 -- a word that is too long is due: it is the first that is known
-long_first : (cut : Bool) (ws : List (List ℕ)) → due_of cut ws ≡ due_long → (w : List ℕ) × (more : List (List ℕ)) × (ws ≡ w ∷ more) × (nat_lt 32 (length w) ≡ true)
+pub long_first : (cut : Bool) (ws : List (List ℕ)) → due_of cut ws ≡ due_long → (w : List ℕ) × (more : List (List ℕ)) × (ws ≡ w ∷ more) × (nat_lt 32 (length w) ≡ true)
 long_first true [] e = cc e
 long_first false [] e = cc e
 long_first cut (v ∷ more) e = elim (cases_Bool (nat_lt 32 (length v))) [
@@ -27,7 +24,7 @@ long_first cut (v ∷ more) e = elim (cases_Bool (nat_lt 32 (length v))) [
 ]
 
 -- the bound is due: no known word is left, and the line is cut
-cut_first : (cut : Bool) (ws : List (List ℕ)) → due_of cut ws ≡ due_cut → (ws ≡ []) × (cut ≡ true)
+pub cut_first : (cut : Bool) (ws : List (List ℕ)) → due_of cut ws ≡ due_cut → (ws ≡ []) × (cut ≡ true)
 cut_first true [] e = (refl, refl)
 cut_first false [] e = cc e
 cut_first cut (v ∷ more) e = elim (cases_Bool (nat_lt 32 (length v))) [

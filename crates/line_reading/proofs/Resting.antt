@@ -2,18 +2,16 @@
 use Rattle.std.proofs.Common.{◌≡◌, ℕ, Bool, true, false, if◌then◌else◌, List, [], ◌∷◌, Some, None, Ok, Err, refl, sym, ap, ◌∙◌, subst}
 use Rattle.std.specs.declared.option.Option.{Option}
 use Rattle.std.specs.declared.result.Result.{Result}
-use Rattle.session_rules.specs.declared.StatusWord.{StatusWord}
 use Rattle.session_rules.specs.declared.Rule.{Rule}
 use Rattle.session_rules.specs.declared.Rule.TheVariants as rules
 use Rattle.session_rules.specs.declared.LineFault.{LineFault}
 use Rattle.session_rules.specs.declared.LineFault.TheVariants.{Syntax, Read, Memory}
 use Rattle.session_rules.specs.Lines.{Line}
-use Rattle.session_rules.specs.Reading.{Fault, wrong, missing, ◌>>=◌, Part, of_whole_line, of_cut_line, whole, own_id, literal_list, id_list, of_literals, of_ids, of_status, status_word}
-use Rattle.slice_tokens.specs.Place.{Place, WhereTold, ahead, present}
+use Rattle.session_rules.specs.Reading.{Fault, wrong, missing, ◌>>=◌, Part, whole, own_id, literal_list, id_list}
+use Rattle.slice_tokens.specs.Place.{Place, WhereTold, present}
 use Rattle.slice_tokens.specs.Due.{known_words}
-use Rattle.slice_tokens.specs.Calls.{SameLater}
-use Rattle.line_reading.specs.Parts.{fault_rule, PartAnswers, SameLine, ReadsPart, end_fault, EndAnswers, EndsLine}
-use Rattle.line_reading.specs.Whole.{of_line, Tells, ReadsRest, literals_rest, ids_rest, status_rest, id_literals_rest, id_literals_ids_rest, literals_ids_rest}
+use Rattle.line_reading.specs.Parts.{PartAnswers, ReadsPart, end_fault, EndAnswers, EndsLine}
+use Rattle.line_reading.specs.Whole.{of_line, Tells, ReadsRest, literals_rest, ids_rest, id_literals_rest, id_literals_ids_rest, literals_ids_rest}
 use Rattle.line_reading.proofs.Collecting.{later_trans, told_then}
 
 -- ---- A part, and what comes behind it

@@ -1,5 +1,5 @@
 -- What words of each kind say, and the parts of lines that are made of them.
-use Rattle.std.specs.Prelude.{◌≡◌, ℕ, Bool, if◌then◌else◌, List, [], ◌∷◌, ◌++◌, Some, None, Ok, Err, codes}
+use Rattle.std.specs.Prelude.{ℕ, if◌then◌else◌, List, Some, None, Ok, Err, codes}
 use Rattle.std.specs.declared.option.Option.{Option}
 use Rattle.std.specs.declared.result.Result.{Result}
 use Rattle.lits.specs.declared.LitWord.{LitWord}
@@ -13,7 +13,7 @@ use Rattle.session_rules.specs.declared.StatusWord.{StatusWord}
 use Rattle.session_rules.specs.declared.StatusWord.TheVariants.{Satisfiable, Unsatisfiable, Unknown}
 use Rattle.session_rules.specs.declared.Rule.{Rule}
 use Rattle.session_rules.specs.declared.Rule.TheVariants as rules
-use Rattle.session_rules.specs.Reading.{Part, letter_of, same_word}
+use Rattle.session_rules.specs.Reading.{letter_of, same_word}
 
 -- the letter that begins a line
 abbrev pub letter_or_rule : Letter → Result Letter Rule

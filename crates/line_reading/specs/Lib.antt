@@ -1,3 +1,4 @@
 pub mod Parts
 pub mod Kinds
 pub mod Whole
+pub mod Expected

@@ -150,7 +150,7 @@ impl WordKind for OwnIdWords {
 
 // Whether two words are the same.
 #[tactic(auto, unfolding(session_rules::specs::Reading::same_word))]
-fn same_word(word: &[u8], name: &[u8]) -> bool
+pub(crate) fn same_word(word: &[u8], name: &[u8]) -> bool
     ensures { result ≡ reading.same_word word.now name.now }
 {
     word.len() == name.len() && word.starts_with(name)

@@ -3,12 +3,14 @@
 #![tactic(auto)]
 
 mod entering;
+mod expecting;
 mod kinds;
 mod lists;
 mod rests;
 mod words;
 
 pub use entering::enter_line;
+pub use expecting::{expect_end, expect_word};
 pub use kinds::{LetterWords, LiteralWords};
 pub use lists::{read_id, read_ids, read_literals, read_status};
 pub use rests::{

@@ -84,6 +84,7 @@ pub fn read_status<S: Source>(window: &mut Window, src: &mut S) -> Result<Status
         (λ bytes rest. ReadsPart status_word result window.old bytes window.new rest) }
     ensures count { S.faults src.old ≤ S.faults src.new }
     ensures read { IsErrOf result LineFault.Read → Rose (S.faults src.old) (S.faults src.new) }
+    ensures memory { IsErrOf result LineFault.Memory → ⊥ }
 {
     next_word::<S, StatusWords>(window, src)
 }

@@ -55,6 +55,7 @@ pub fn status_rest<S: Source>(window: &mut Window, src: &mut S) -> Result<Status
         (λ bytes rest. ReadsRest status_rest result window.old bytes window.new rest) }
     ensures count { S.faults src.old ≤ S.faults src.new }
     ensures read { IsErrOf result LineFault.Read → Rose (S.faults src.old) (S.faults src.new) }
+    ensures memory { IsErrOf result LineFault.Memory → ⊥ }
 {
     let status = read_status(window, src)?;
     end_line(window, src)?;

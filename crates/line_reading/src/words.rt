@@ -35,7 +35,7 @@ pub trait WordKind {
 }
 
 // A fault of the window, where a word that is too long breaks this rule.
-fn line_fault(fault: TokenFault, long: Rule) -> LineFault
+pub(crate) fn line_fault(fault: TokenFault, long: Rule) -> LineFault
     ensures { result ≡ line_fault_of long fault }
 {
     match fault {
@@ -56,6 +56,7 @@ pub fn next_word<S: Source, K: WordKind>(
         (λ bytes rest. ReadsPart (word_part K.says K.missing K.long) result window.old bytes window.new rest) }
     ensures count { S.faults src.old ≤ S.faults src.new }
     ensures read { IsErrOf result LineFault.Read → Rose (S.faults src.old) (S.faults src.new) }
+    ensures memory { IsErrOf result LineFault.Memory → ⊥ }
 {
     match window.next(src) {
         Ok(Token::Word(word)) => match K::read(word) {
@@ -74,6 +75,7 @@ pub fn end_line<S: Source>(window: &mut Window, src: &mut S) -> Result<(), LineF
         (λ bytes rest. EndsLine result window.old bytes window.new rest) }
     ensures count { S.faults src.old ≤ S.faults src.new }
     ensures read { IsErrOf result LineFault.Read → Rose (S.faults src.old) (S.faults src.new) }
+    ensures memory { IsErrOf result LineFault.Memory → ⊥ }
 {
     match window.next(src) {
         Ok(Token::Word(_)) => Err(LineFault::Syntax(Rule::Excess)),

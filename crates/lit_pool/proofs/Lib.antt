@@ -1,2 +1,4 @@
+pub mod Lists
+pub mod Raw
 pub mod RowsMap
 pub mod Slots

@@ -1,28 +1,28 @@
 -- How the pool's rows give the map.
-use Rattle.std.specs.Prelude.{ℕ, suc, List, [], ◌∷◌, ◌++◌, Option, Some, None}
+use Rattle.std.specs.Prelude.{ℕ, suc, List, [], ◌∷◌, ◌++◌, Option, Some, None, cond, map, take}
 use Rattle.std.specs.FinMap.{from_entries}
-use Rattle.lit_pool.specs.declared.Stored.{Stored}
+use Rattle.lit_pool.specs.declared.row.Row.{Row}
 use Rattle.lit_pool.specs.Entry.{Entry, Entries}
+use Rattle.lit_pool.specs.Link.{link_if}
 
--- a stored row as callers see it
-abbrev pub entry_of : Stored → Entry
-entry_of r = record { lits = r.lits.items; one = r.one; two = r.two }
+-- the entry that a row keeps: the literals at its block's front, and the links
+abbrev pub entry_of : Row → Entry
+entry_of r = record { lits = take r.len r.held.block.items; one = link_if r.has_one r.one; two = link_if r.has_two r.two }
 
--- what is seen of a row
-abbrev pub seen : Option Stored → Option Entry
-seen None = None
-seen (Some r) = Some (entry_of r)
+-- what callers see of a row: nothing of a freed one
+abbrev pub seen : Row → Option Entry
+seen r = cond r.live (Some (entry_of r)) None
 
 -- the entry of a row that has one, with its number
 abbrev pub entry_if : ℕ → Option Entry → List (ℕ × Entry)
 entry_if k None = []
 entry_if k (Some e) = (k, e) ∷ []
 
--- the live rows with their numbers, which begin at k
-abbrev pub listed : ℕ → List (Option Stored) → List (ℕ × Entry)
+-- the entries with their numbers, which begin at k
+abbrev pub listed : ℕ → List (Option Entry) → List (ℕ × Entry)
 listed k [] = []
-listed k (r ∷ rs) = entry_if k (seen r) ++ listed (suc k) rs
+listed k (e ∷ es) = entry_if k e ++ listed (suc k) es
 
 -- the live rows as a map
-unfoldable pub live_rows : List (Option Stored) → Entries
-live_rows rs = from_entries (listed 0 rs)
+unfoldable pub live_rows : List Row → Entries
+live_rows rs = from_entries (listed 0 (map seen rs))

@@ -3,10 +3,21 @@
 //! says in one equation what becomes of one entry and that all others stay.
 #![tactic(auto)]
 
-ghost use Rattle.std.specs.Prelude.{◌≡◌, ◌+◌, ◌*◌, ◌^◌, ◌<◌, ◌≤◌, [], ◌∷◌, length, swap, IfOk, OnErr, IsTrue, Some, None};
+ghost use Rattle.std.specs.Prelude.{◌≡◌, ◌+◌, ◌*◌, ◌^◌, ◌<◌, ◌≤◌, [], ◌∷◌, length, swap, IfOk, IfSome, IfNone, OnErr, IsTrue, ◌↔◌, Some, None};
 ghost use Rattle.std.specs.FinMap as map;
 ghost use Rattle.lit_pool.specs.Entry.{IsLive, lits_at, link_at, new_entry, with_swap, with_link};
 
+mod block;
+mod freed;
+#[cfg(test)]
+mod plain;
+mod row;
+#[cfg(test)]
+#[tactic(auto, using(crate::proofs::Slots::slot_steps))]
+mod tests;
+
+use crate::freed::{Freed, size_for};
+use crate::row::Row;
 use lits::Lit;
 use std::alloc::{AllocError, Global};
 use std::marker::Model;
@@ -14,7 +25,7 @@ use std::marker::Model;
 /// The name of an entry: a number, which may name another entry once this one is freed.
 #[derive(Clone, Copy, PartialEq, Eq, Debug)]
 pub struct Slot {
-    number: u64,
+    number: u32,
 }
 
 impl Model for Slot {
@@ -32,7 +43,7 @@ impl Slot {
     pub fn number(self) -> u64
         ensures { result ≡ self }
     {
-        self.number
+        self.number as u64
     }
 }
 
@@ -43,18 +54,11 @@ pub enum Which {
     Two,
 }
 
-/// An entry as the plain body keeps it.
-#[derive(Drop)]
-struct Stored {
-    lits: Vec<Lit>,
-    one: Option<Slot>,
-    two: Option<Slot>,
-}
-
 /// The entries. Contracts see the map from each live slot to its entry.
 #[derive(Drop)]
 pub struct Pool {
-    rows: Vec<Option<Stored>>,
+    rows: Vec<Row>,
+    freed: Freed,
     live: u64,
 }
 
@@ -83,6 +87,7 @@ impl Pool {
     {
         Pool {
             rows: Vec::new(alloc),
+            freed: Freed::new(),
             live: 0,
         }
     }
@@ -94,6 +99,17 @@ impl Pool {
         self.live
     }
 
+    /// Whether a slot is that of a live entry.
+    pub fn is_live(&self, s: Slot) -> bool
+        ensures { IsTrue result ↔ IsLive self.now s }
+    {
+        let at = s.number as usize;
+        if at >= self.rows.len() {
+            return false;
+        }
+        self.rows[at].is_live()
+    }
+
     /// Adds an entry of these literals, in their order, with no links, at a slot that wasn't live. Where memory is
     /// wanting the pool stays as it was.
     pub fn add(&mut self, lits: &[Lit]) -> Result<Slot, AllocError>
@@ -101,17 +117,14 @@ impl Pool {
         ensures ok { IfOk result (λ s. self.new ≡ map.insert self.old s (new_entry lits.now)) }
         ensures err { OnErr result (self.new ≡ self.old) }
     {
-        let alloc = *self.rows.allocator();
-        let lits = Vec::from_slice(alloc, lits)?;
-        let end = self.rows.len();
-        let number = end as u64;
-        self.rows.push(Some(Stored {
-            lits,
-            one: None,
-            two: None,
-        }))?;
-        self.live += 1;
-        Ok(Slot { number })
+        if lits.len() > u32::MAX as usize {
+            return Err(AllocError);
+        }
+        let (size, room) = size_for(lits.len());
+        match self.reuse(size, lits) {
+            Some(s) => Ok(s),
+            None => self.push(room, lits),
+        }
     }
 
     /// The literals of a live entry in their order.
@@ -119,10 +132,7 @@ impl Pool {
         requires live { IsLive self.now s }
         ensures { result.now ≡ lits_at self.now s }
     {
-        match &self.rows[s.number as usize] {
-            Some(row) => &row.lits,
-            None => &[],
-        }
+        self.rows[s.number as usize].lits()
     }
 
     /// Exchanges two places of a live entry's list, counted from 0. All else stays.
@@ -132,10 +142,7 @@ impl Pool {
         requires b_in_bounds { b < length (lits_at self.old s) }
         ensures { self.new ≡ with_swap self.old s a b }
     {
-        let row = &mut self.rows[s.number as usize];
-        if let Some(row) = row {
-            row.lits.swap(a, b);
-        }
+        self.rows[s.number as usize].swap(a, b);
     }
 
     /// One of a live entry's links.
@@ -143,13 +150,7 @@ impl Pool {
         requires live { IsLive self.now s }
         ensures { result ≡ link_at self.now s which }
     {
-        match &self.rows[s.number as usize] {
-            Some(row) => match which {
-                Which::One => row.one,
-                Which::Two => row.two,
-            },
-            None => None,
-        }
+        self.rows[s.number as usize].link(which)
     }
 
     /// Sets one of a live entry's links, to any slot or to none. All else stays.
@@ -157,13 +158,7 @@ impl Pool {
         requires live { IsLive self.old s }
         ensures { self.new ≡ with_link self.old s which to }
     {
-        let row = &mut self.rows[s.number as usize];
-        if let Some(row) = row {
-            match which {
-                Which::One => row.one = to,
-                Which::Two => row.two = to,
-            }
-        }
+        self.rows[s.number as usize].set_link(which, to);
     }
 
     /// Takes a live entry out. Its slot may be handed out again.
@@ -171,47 +166,53 @@ impl Pool {
         requires live { IsLive self.old s }
         ensures { self.new ≡ map.remove self.old s }
     {
-        self.rows[s.number as usize] = None;
+        let at = s.number as usize;
+        let (size, _) = size_for(self.rows[at].len());
+        let next = self.freed.last(size);
+        self.rows[at].clear(next);
+        self.freed.set_last(size, Some(s));
         self.live -= 1;
     }
-}
 
-#[cfg(test)]
-#[tactic(auto, using(crate::proofs::Slots::slot_steps))]
-mod tests {
-    use super::*;
-    use std::test::Fail;
-
-    fn lit(n: i64) -> Result<Lit, Fail> {
-        Ok(Lit::new(n).ok_or("no literal")?)
+    /// Puts an entry into the row that was freed last among those of this size. There may be none.
+    fn reuse(&mut self, size: usize, lits: &[Lit]) -> Option<Slot>
+        ensures fresh { IfSome result (λ s. map.get self.old s ≡ None) }
+        ensures some { IfSome result (λ s. self.new ≡ map.insert self.old s (new_entry lits.now)) }
+        ensures none { IfNone result (self.new ≡ self.old) }
+    {
+        let s = match self.freed.last(size) {
+            Some(s) => s,
+            None => return None,
+        };
+        let at = s.number as usize;
+        if at >= self.rows.len() {
+            return None;
+        }
+        if self.rows[at].is_live() || !self.rows[at].has_room(lits.len()) {
+            return None;
+        }
+        let next = self.rows[at].link(Which::One);
+        self.rows[at].fill(lits);
+        self.freed.set_last(size, next);
+        self.live += 1;
+        Some(s)
     }
 
-    #[test]
-    fn an_entry_is_added_and_changed(rt: HostRuntime) -> Result<(), Fail> {
-        let two = [lit(1)?, lit(-2)?];
-        let mut pool = Pool::new(rt.alloc());
-        let s = pool.add(&two)?;
-        pool.swap(s, 0, 1);
-        pool.set_link(s, Which::Two, Some(s));
-        assert_eq!(rt; pool.link(s, Which::One), None);
-        assert_eq!(rt; pool.link(s, Which::Two), Some(s));
-        let lits = pool.lits(s);
-        assert_eq!(rt; lits.len(), 2);
-        assert_eq!(rt; lits[0].number(), -2);
-        assert_eq!(rt; lits[1].number(), 1);
-        Ok(())
-    }
-
-    #[test]
-    fn an_entry_is_freed_beside_another(rt: HostRuntime) -> Result<(), Fail> {
-        let mut pool = Pool::new(rt.alloc());
-        let a = pool.add(&[])?;
-        let b = pool.add(&[])?;
-        assert!(rt; a != b);
-        assert_eq!(rt; pool.count(), 2);
-        pool.free(a);
-        assert_eq!(rt; pool.count(), 1);
-        assert_eq!(rt; pool.lits(b).len(), 0);
-        Ok(())
+    /// Puts an entry into a row after the others, in a block for `room` literals.
+    fn push(&mut self, room: usize, lits: &[Lit]) -> Result<Slot, AllocError>
+        requires { length lits.now ≤ room }
+        ensures fresh { IfOk result (λ s. map.get self.old s ≡ None) }
+        ensures ok { IfOk result (λ s. self.new ≡ map.insert self.old s (new_entry lits.now)) }
+        ensures err { OnErr result (self.new ≡ self.old) }
+    {
+        let end = self.rows.len();
+        if end > u32::MAX as usize {
+            return Err(AllocError);
+        }
+        let alloc = *self.rows.allocator();
+        let row = Row::new(alloc, room, lits)?;
+        self.rows.push(row)?;
+        self.live += 1;
+        Ok(Slot { number: end as u32 })
     }
 }

@@ -16,7 +16,9 @@ use Rattle.side_laws.proofs.Maps.{get-kept_by, empty-kept_by}
 use Rattle.side_laws.proofs.Stores.{store_added, within-change, within-empty}
 use Rattle.side_laws.specs.Ids.{HoldsIds}
 use Rattle.pair_matcher.specs.Sides.{AreAfterIds}
-use Rattle.pair_matcher.specs.Inside.{IsInside, AreBelow}
+use Rattle.propagation.specs.Engine.{EngineView, level_after, no_engine, Grows}
+use Rattle.propagation.proofs.Trail.{level_after-append}
+use Rattle.pair_matcher.specs.Inside.{IsInside, AreBelow, IsBetweenLines}
 
 -- ---- Lists of literals
 
@@ -76,7 +78,29 @@ inside-reserved m s t v w vars h e f = let g : t.reserved ≡ max s.reserved var
   events = omega arith;
 }
 
+-- ---- Between two lines without ids
+
+module _ (e : EngineView) (s : State) (h : IsBetweenLines e s) where
+  pub between-kept : (f : EngineView) (t : State) → f.vars ≡ e.vars → level_after f.trail ≡ 0 → t.reserved ≡ s.reserved → IsBetweenLines f t
+  between-kept f t vars level same = let k = h.events in record { events = omega arith; level = level }
+
+  pub between-grown : (f : EngineView) (t : State) → Grows e f → t.reserved ≡ s.reserved → IsBetweenLines f t
+  between-grown f t g same = let k = h.level in let added = g.2 in let sum = level_after-append e.trail g.0 in
+      between-kept f t (ap (λ z. z.vars) g.1) (ap (λ z. level_after z.trail) g.1 ∙ omega arith) same
+
+  pub between-events : (t : State) → t.reserved ≡ s.reserved → IsBetweenLines e t
+  between-events t same = between-kept e t refl h.level same
+
+  pub negations_between : (ls negations : List ℕ) → negations ≡ map neg ls → AreReserved s ls → (l : ℕ) → Contains negations l → var l ≤ e.vars
+  negations_between ls negations is r l k = le_trans (at_below (map neg ls) s.reserved l (below-neg ls s.reserved r) (subst (λ z. Contains z l) is k)) h.events
+
 -- ---- The start
+
+pub between-new : (e : EngineView) (s : State) → e ≡ no_engine → s ≡ start → IsBetweenLines e s
+between-new e s is same = let g : s.reserved ≡ 0 = ap (λ z. z.reserved) same in record {
+  events = omega arith;
+  level = ap (λ z. level_after z.trail) is;
+}
 
 pub inside-new : (m : Store) (s : State) (v : ℕ) → m ≡ finmap.empty → s ≡ start → IsInside m s v
 inside-new m s v e f = let g : s.reserved ≡ 0 = ap (λ z. z.reserved) f in record {

@@ -1,11 +1,11 @@
 -- What the judgement of each step without ids rests on.
-use Rattle.std.proofs.Common.{◌≡◌, ℕ, ◌+◌, ◌≤◌, Bool, true, false, nat_lt, List, [], ◌∷◌, ◌++◌, map, filter_map, Contains, Option, Some, None, Result, Ok, Err, refl, sym, ap, ◌∙◌, subst, append-nil, arith}
+use Rattle.std.proofs.Common.{◌≡◌, ℕ, ◌+◌, Bool, true, false, nat_lt, List, [], ◌∷◌, ◌++◌, map, Option, Some, None, Result, Ok, Err, refl, sym, ap, ◌∙◌, subst, append-nil}
 use Rattle.std.specs.Prelude.{slice_get, IfNone, IfOk}
 use Rattle.std.proofs.lemmas.List.Elements.{filter_map-append}
 use Rattle.std.specs.FinMap as finmap
 use Rattle.std.specs.FinMap.{get}
 use Rattle.std.specs.declared.alloc.AllocError.{AllocError}
-use Rattle.lits.specs.Literal.{neg, var}
+use Rattle.lits.specs.Literal.{neg}
 use Rattle.lits.specs.Clause.{has, same_set, set_of}
 use Rattle.lits.proofs.Sets.{same_set-flip}
 use Rattle.lits.proofs.Ascending.{has-set_of}
@@ -26,7 +26,7 @@ use Rattle.propagation.specs.Clauses as seen
 use Rattle.propagation.specs.Clauses.{clauses_of, active}
 use Rattle.propagation.specs.Engine as engine
 use Rattle.propagation.specs.Engine.{EngineView}
-use Rattle.session_events.specs.State.{State, StandsFor, AreReserved, kind_of, order_rules, model_rules, core_rules}
+use Rattle.session_events.specs.State.{State, StandsFor, kind_of, order_rules, model_rules, core_rules}
 use Rattle.side_laws.specs.Kept.{Kept, Clauses, kept, ChangesAt}
 use Rattle.side_laws.specs.Sets.{new_clause, HoldsSets}
 use Rattle.side_laws.proofs.Held.{holds_no_sets, sets_silent, sets_given, sets_deleted, sets_weakened, sets_restored, active_some, weakened_some, active_none, weakened_none}
@@ -34,7 +34,6 @@ use Rattle.pair_matcher.specs.Sides.{first_rule, AreAfter, Judged}
 use Rattle.pair_matcher.specs.Inside.{kept_of_clause, clauses_of_engine}
 use Rattle.pair_matcher.proofs.Rules.{first-get, first-skip, first-here, first-kept, first-unkept, order_is, model_is, core_is}
 use Rattle.pair_matcher.proofs.Engines.{found_active, found_weakened, none_active, none_weakened, engine_added, engine_deleted, engine_weakened, engine_restored, closes_is, grown_clauses}
-use Rattle.pair_matcher.proofs.Insides.{below-neg, at_below}
 use Rattle.side_laws.proofs.Maps.{empty-kept_by}
 use Rattle.std.specs.Cmp.{nat_cmp_total}
 use Rattle.std.specs.Ordering.{nat_cmp}
@@ -243,31 +242,15 @@ pub judged_ok : (m k n : Clauses) (next now after : ℕ) (s r t : State) (step :
 judged_ok m k n next now after s r t step (Ok a) h j = judged-after m k n next now after s r t step a h j
 judged_ok m k n next now after s r t step (Err e) h j = tt
 
--- ---- An engine whose trail is cleared
+-- ---- What the test of closing tells and leaves
 
-module _ (e f : EngineView) (is : f ≡ engine.with_trail e []) where
-  pub tested : (ls ms : List ℕ) (answer b : Bool) → (answer ≡ true → Closes (active f.clauses) ls) → (Closes (active f.clauses) ls → answer ≡ true) → answer ≡ b → ls ≡ ms
-      → TestsClosing (clauses_of_engine e) ms b
-  tested ls ms answer b sound complete h same = subst (λ z. TestsClosing (clauses_of_engine e) z b) same (subst (TestsClosing (clauses_of_engine e) ls) h
-      (subst (λ z. TestsClosing z ls answer) (ap clauses_of_engine is) (tests_closing f ls answer sound complete)))
+pub tested : (e : EngineView) (ls ms : List ℕ) (answer b : Bool) → (answer ≡ true → Closes (active e.clauses) ls) → (Closes (active e.clauses) ls → answer ≡ true) → answer ≡ b → ls ≡ ms
+    → TestsClosing (clauses_of_engine e) ms b
+tested e ls ms answer b sound complete h same = subst (λ z. TestsClosing (clauses_of_engine e) z b) same (subst (TestsClosing (clauses_of_engine e) ls) h
+    (tests_closing e ls answer sound complete))
 
-  pub cleared : (g : EngineView) (id : ℕ) (now : Option Kept) → ChangesAt (clauses_of_engine f) (clauses_of_engine g) id now → ChangesAt (clauses_of_engine e) (clauses_of_engine g) id now
-  cleared g id now h = subst (λ z. ChangesAt z (clauses_of_engine g) id now) (ap clauses_of_engine is) h
-
-  pub tested_clauses : (g : EngineView) → engine.Grows f g → clauses_of_engine g ≡ clauses_of_engine e
-  tested_clauses g h = grown_clauses f g h ∙ ap clauses_of_engine is
-
-  pub tested_vars : (g : EngineView) → engine.Grows f g → g.vars ≡ e.vars
-  tested_vars g h = ap (λ z. z.vars) h.1 ∙ ap (λ z. z.vars) is
-
--- two clearings, and the test between them
-pub cleared_twice : (e f g h i : EngineView) (id : ℕ) (now : Option Kept) → f ≡ engine.with_trail e [] → engine.Grows f g → h ≡ engine.with_trail g []
-    → ChangesAt (clauses_of_engine h) (clauses_of_engine i) id now → ChangesAt (clauses_of_engine e) (clauses_of_engine i) id now
-cleared_twice e f g h i id now first grows second change = subst (λ z. ChangesAt z (clauses_of_engine i) id now) (ap clauses_of_engine second ∙ tested_clauses e f first g grows) change
-
-pub negations_reserved : (s : State) (vars : ℕ) (e : EngineView) (ls negations : List ℕ) → s.reserved ≤ vars → e.vars ≡ vars → negations ≡ map neg ls → AreReserved s ls
-    → (l : ℕ) → Contains negations l → var l ≤ e.vars
-negations_reserved s vars e ls negations le same is r l k = let b = at_below (map neg ls) s.reserved l (below-neg ls s.reserved r) (subst (λ z. Contains z l) is k) in omega arith
+pub tested_then : (e f g : EngineView) (id : ℕ) (now : Option Kept) → engine.Grows e f → ChangesAt (clauses_of_engine f) (clauses_of_engine g) id now → ChangesAt (clauses_of_engine e) (clauses_of_engine g) id now
+tested_then e f g id now grows change = subst (λ z. ChangesAt z (clauses_of_engine g) id now) (grown_clauses e f grows) change
 
 -- ---- The start
 

@@ -4,3 +4,8 @@ pub mod Judging
 pub mod Insides
 pub mod Engines
 pub mod JudgingSets
+pub mod CutLines
+pub mod Headed
+pub mod FirstFaults
+pub mod TwoStreams
+pub mod Lines

@@ -3,7 +3,7 @@ use Rattle.std.specs.Prelude.{◌≡◌, ℕ, ◌≤◌, List, Contains, All, is
 use Rattle.lits.specs.Literal.{max_var, var}
 use Rattle.clause_store.specs.Clauses.{Store}
 use Rattle.propagation.specs.Clauses.{Clause}
-use Rattle.propagation.specs.Engine.{EngineView}
+use Rattle.propagation.specs.Engine.{EngineView, level_after}
 use Rattle.side_laws.specs.Kept.{Kept, Clauses, kept, kept_by, clauses_of_store, AreWithin}
 use Rattle.session_events.specs.State.{State}
 
@@ -23,3 +23,8 @@ kept_of_clause c = kept (is_some c.slot) c.literals
 -- the clauses of an engine
 abbrev pub clauses_of_engine : EngineView → Clauses
 clauses_of_engine e = kept_by kept_of_clause e.clauses
+
+-- between two lines the engine has room for the variables that the events reserved, and nothing is assumed on its trail
+pub record IsBetweenLines (e : EngineView) (s : State) : Type 0 where
+  pub events : s.reserved ≤ e.vars
+  pub level : level_after e.trail ≡ 0

@@ -1,3 +1,4 @@
 pub mod Turns
 pub mod Sides
 pub mod Inside
+pub mod Checks

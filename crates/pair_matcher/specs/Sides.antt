@@ -70,8 +70,10 @@ pub record Judged (m : Clauses) (next : ℕ) (s : State) (n : Clauses) (after : 
   pub rule : (ps : List Step) → AreAfter m next s ps → answer ≡ first_rule (own_faults ps step)
   pub stands : IfNone answer ((ps : List Step) → AreAfter m next s ps → AreAfter n after t (ps ++ step ∷ []))
 
--- the steps without ids that take no memory: a status, and a deletion of at most so many literals as a set holds without memory
+-- the steps without ids that take no memory: a status, a core, and a deletion of at most so many literals as a set holds without
+-- memory
 abbrev pub is_frugal : Step → Bool
 is_frugal (steps.Event (events.Status word)) = true
+is_frugal (steps.Event (events.Core u)) = true
 is_frugal (steps.Delete c) = nat_le (length c) 16
 is_frugal _ = false

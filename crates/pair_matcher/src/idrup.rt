@@ -1,7 +1,9 @@
 // The side of a proof without ids. It gives the clauses ids from 1 on, keeps them in an engine, and finds a copy of a clause by
-// its set. Lemmas and cores are tested by propagation over the active clauses.
+// its set. Lemmas and cores are tested by propagation over the active clauses. What these force without an assumption stays on
+// the trail from one line to the next, and is given up only where a clause that is a reason is deleted or weakened.
 
-ghost use Rattle.std.specs.Prelude.{◌≡◌, ◌+◌, ◌<◌, ◌≤◌, ◌^◌, List, [], ◌∷◌, ◌++◌, true, false, length, IsTrue, IfOk, IfNone, IsOk, OnOk, OnErr, is_none};
+ghost use Rattle.std.specs.Prelude.{◌≡◌, ◌+◌, ◌<◌, ◌≤◌, ◌^◌, List, [], ◌∷◌, ◌++◌, true, false, length, IsTrue, IfOk, IfNone, IsOk, OnOk, OnErr, is_none, All};
+ghost use Rattle.lits.specs.Literal.{max_var, var};
 ghost use Rattle.session_rules.specs.declared.Event.TheVariants as events;
 ghost use Rattle.session_rules.specs.declared.Step.{Step};
 ghost use Rattle.session_rules.specs.declared.Step.TheVariants as steps;
@@ -9,8 +11,9 @@ ghost use Rattle.session_rules.specs.History.{phase, broken_unless};
 ghost use Rattle.session_rules.specs.Own.{events_of, own_faults};
 ghost use Rattle.session_rules.specs.Pair.{is_idle};
 ghost use Rattle.session_events.specs.State.{AreReserved};
+ghost use Rattle.propagation.specs.Engine.{level_after, IsNoReason};
 ghost use Rattle.pair_matcher.specs.Sides.{StandsFor, AreAfter, Judged, first_rule, is_frugal};
-ghost use Rattle.pair_matcher.specs.Inside.{clauses_of_engine};
+ghost use Rattle.pair_matcher.specs.Inside.{clauses_of_engine, IsBetweenLines};
 
 use crate::literals::{greatest_variable, negate};
 use lits::{Lit, LitSet};
@@ -21,7 +24,7 @@ use session_rules::{Event, Id, Phase, Rule, StatusWord, Step};
 use std::alloc::{AllocError, Global};
 use std::marker::Model;
 
-/// What a side is made of.
+/// What a side is made of. Between two lines the engine's trail is at level 0: it has what follows from the clauses alone.
 #[derive(Drop)]
 struct Parts {
     events: Events,
@@ -33,11 +36,11 @@ struct Parts {
 
 /// Reserves the variables of literals.
 fn reserve(p: &mut Parts, lits: &[Lit]) -> Result<(), AllocError>
-    requires { p.old.events.reserved ≤ p.old.engine.vars }
+    requires { IsBetweenLines p.old.engine p.old.events }
     ensures reserved { OnOk result (AreReserved p.new.events lits.now) }
     ensures next { p.new.next ≡ p.old.next }
     ensures stands { (ps : List Step) → AreAfter (clauses_of_engine p.old.engine) p.old.next p.old.events ps → AreAfter (clauses_of_engine p.new.engine) p.new.next p.new.events ps }
-    ensures inside { p.new.events.reserved ≤ p.new.engine.vars }
+    ensures inside { IsBetweenLines p.new.engine p.new.events }
 {
     let variable = greatest_variable(lits);
     p.engine.reserve(variable)?;
@@ -47,17 +50,16 @@ fn reserve(p: &mut Parts, lits: &[Lit]) -> Result<(), AllocError>
 
 /// Judges an input.
 fn judge_input(p: &mut Parts, lits: &[Lit]) -> Result<Option<Rule>, AllocError>
-    requires inside { p.old.events.reserved ≤ p.old.engine.vars }
+    requires inside { IsBetweenLines p.old.engine p.old.events }
     requires reserved { AreReserved p.old.events lits.now }
     requires next { p.old.next < 2 ^ 63 }
     ensures judged { IfOk result (λ r. Judged (clauses_of_engine p.old.engine) p.old.next p.old.events (clauses_of_engine p.new.engine) p.new.next p.new.events (steps.Event (events.Input lits.now)) r) }
-    ensures inside { p.new.events.reserved ≤ p.new.engine.vars }
+    ensures inside { IsBetweenLines p.new.engine p.new.events }
     ensures next { p.new.next ≤ p.old.next + 1 }
 {
     if let Some(rule) = p.events.order_rule(Kind::Input) {
         return Ok(Some(rule));
     }
-    p.engine.clear();
     match p.engine.add(p.next, lits) {
         Ok(_) => {}
         Err(_) => return Err(AllocError),
@@ -69,10 +71,10 @@ fn judge_input(p: &mut Parts, lits: &[Lit]) -> Result<Option<Rule>, AllocError>
 
 /// Judges a query.
 fn judge_query(p: &mut Parts, lits: &[Lit]) -> Result<Option<Rule>, AllocError>
-    requires inside { p.old.events.reserved ≤ p.old.engine.vars }
+    requires inside { IsBetweenLines p.old.engine p.old.events }
     requires reserved { AreReserved p.old.events lits.now }
     ensures judged { IfOk result (λ r. Judged (clauses_of_engine p.old.engine) p.old.next p.old.events (clauses_of_engine p.new.engine) p.new.next p.new.events (steps.Event (events.Query lits.now)) r) }
-    ensures inside { p.new.events.reserved ≤ p.new.engine.vars }
+    ensures inside { IsBetweenLines p.new.engine p.new.events }
     ensures next { p.new.next ≤ p.old.next + 1 }
 {
     if let Some(rule) = p.events.order_rule(Kind::Query) {
@@ -84,9 +86,9 @@ fn judge_query(p: &mut Parts, lits: &[Lit]) -> Result<Option<Rule>, AllocError>
 
 /// Judges a status. It takes no memory.
 fn judge_status(p: &mut Parts, word: StatusWord) -> Option<Rule>
-    requires { p.old.events.reserved ≤ p.old.engine.vars }
+    requires { IsBetweenLines p.old.engine p.old.events }
     ensures judged { Judged (clauses_of_engine p.old.engine) p.old.next p.old.events (clauses_of_engine p.new.engine) p.new.next p.new.events (steps.Event (events.Status word)) result }
-    ensures inside { p.new.events.reserved ≤ p.new.engine.vars }
+    ensures inside { IsBetweenLines p.new.engine p.new.events }
     ensures next { p.new.next ≤ p.old.next + 1 }
 {
     if let Some(rule) = p.events.order_rule(Kind::Status) {
@@ -98,10 +100,10 @@ fn judge_status(p: &mut Parts, word: StatusWord) -> Option<Rule>
 
 /// Judges a model.
 fn judge_model(p: &mut Parts, m: &[Lit]) -> Option<Rule>
-    requires inside { p.old.events.reserved ≤ p.old.engine.vars }
+    requires inside { IsBetweenLines p.old.engine p.old.events }
     requires reserved { AreReserved p.old.events m.now }
     ensures judged { Judged (clauses_of_engine p.old.engine) p.old.next p.old.events (clauses_of_engine p.new.engine) p.new.next p.new.events (steps.Event (events.Model m.now)) result }
-    ensures inside { p.new.events.reserved ≤ p.new.engine.vars }
+    ensures inside { IsBetweenLines p.new.engine p.new.events }
     ensures next { p.new.next ≤ p.old.next + 1 }
 {
     if let Some(rule) = p.events.order_rule(Kind::Model) {
@@ -114,12 +116,12 @@ fn judge_model(p: &mut Parts, m: &[Lit]) -> Option<Rule>
     None
 }
 
-/// Judges a core.
+/// Judges a core. It takes no memory: behind the rules of its literals these are assumptions, and so their variables are
+/// reserved.
 fn judge_core(p: &mut Parts, u: &[Lit]) -> Option<Rule>
-    requires inside { p.old.events.reserved ≤ p.old.engine.vars }
-    requires reserved { AreReserved p.old.events u.now }
+    requires { IsBetweenLines p.old.engine p.old.events }
     ensures judged { Judged (clauses_of_engine p.old.engine) p.old.next p.old.events (clauses_of_engine p.new.engine) p.new.next p.new.events (steps.Event (events.Core u.now)) result }
-    ensures inside { p.new.events.reserved ≤ p.new.engine.vars }
+    ensures inside { IsBetweenLines p.new.engine p.new.events }
     ensures next { p.new.next ≤ p.old.next + 1 }
 {
     if let Some(rule) = p.events.order_rule(Kind::Core) {
@@ -128,7 +130,6 @@ fn judge_core(p: &mut Parts, u: &[Lit]) -> Option<Rule>
     if let Some(rule) = p.events.core_rule(u) {
         return Some(rule);
     }
-    p.engine.clear();
     if !closes(&mut p.engine, u) {
         return Some(Rule::CoreOpen);
     }
@@ -138,19 +139,17 @@ fn judge_core(p: &mut Parts, u: &[Lit]) -> Option<Rule>
 
 /// Judges a lemma.
 fn judge_lemma(p: &mut Parts, lits: &[Lit]) -> Result<Option<Rule>, AllocError>
-    requires inside { p.old.events.reserved ≤ p.old.engine.vars }
+    requires inside { IsBetweenLines p.old.engine p.old.events }
     requires reserved { AreReserved p.old.events lits.now }
     requires next { p.old.next < 2 ^ 63 }
     ensures judged { IfOk result (λ r. Judged (clauses_of_engine p.old.engine) p.old.next p.old.events (clauses_of_engine p.new.engine) p.new.next p.new.events (steps.Lemma lits.now) r) }
-    ensures inside { p.new.events.reserved ≤ p.new.engine.vars }
+    ensures inside { IsBetweenLines p.new.engine p.new.events }
     ensures next { p.new.next ≤ p.old.next + 1 }
 {
     negate(&mut p.negations, lits)?;
-    p.engine.clear();
     if !closes(&mut p.engine, p.negations.as_slice()) {
         return Ok(Some(Rule::Lemma));
     }
-    p.engine.clear();
     match p.engine.add(p.next, lits) {
         Ok(_) => {}
         Err(_) => return Err(AllocError),
@@ -159,19 +158,33 @@ fn judge_lemma(p: &mut Parts, lits: &[Lit]) -> Result<Option<Rule>, AllocError>
     Ok(None)
 }
 
+/// Empties the trail where the clause is a reason, so that it may be deleted or weakened.
+fn release(engine: &mut Engine, id: Id)
+    requires { level_after engine.old.trail ≡ 0 }
+    ensures no_reason { IsNoReason engine.new id }
+    ensures level { level_after engine.new.trail ≡ 0 }
+    ensures clauses { engine.new.clauses ≡ engine.old.clauses }
+    ensures vars { engine.new.vars ≡ engine.old.vars }
+    ensures kept { IsNoReason engine.old id → engine.new ≡ engine.old }
+{
+    if engine.is_reason(id) {
+        engine.clear();
+    }
+}
+
 /// Judges a deletion: of the least active id of the clause. It takes no memory for a clause of at most 16 literals.
 fn judge_deletion(p: &mut Parts, lits: &[Lit]) -> Result<Option<Rule>, AllocError>
-    requires { p.old.events.reserved ≤ p.old.engine.vars }
+    requires { IsBetweenLines p.old.engine p.old.events }
     ensures judged { IfOk result (λ r. Judged (clauses_of_engine p.old.engine) p.old.next p.old.events (clauses_of_engine p.new.engine) p.new.next p.new.events (steps.Delete lits.now) r) }
-    ensures inside { p.new.events.reserved ≤ p.new.engine.vars }
+    ensures inside { IsBetweenLines p.new.engine p.new.events }
     ensures next { p.new.next ≤ p.old.next + 1 }
     ensures short { length lits.now ≤ 16 → IsOk result }
 {
     let set = LitSet::of(p.alloc, lits)?;
-    p.engine.clear();
     let Some(id) = p.engine.store().least_active(&set) else {
         return Ok(Some(Rule::NotActive(1)));
     };
+    release(&mut p.engine, id);
     match p.engine.delete(id) {
         Ok(()) => Ok(None),
         Err(_) => Err(AllocError),
@@ -180,16 +193,16 @@ fn judge_deletion(p: &mut Parts, lits: &[Lit]) -> Result<Option<Rule>, AllocErro
 
 /// Judges a weakening: of the least active id of the clause.
 fn judge_weakening(p: &mut Parts, lits: &[Lit]) -> Result<Option<Rule>, AllocError>
-    requires { p.old.events.reserved ≤ p.old.engine.vars }
+    requires { IsBetweenLines p.old.engine p.old.events }
     ensures judged { IfOk result (λ r. Judged (clauses_of_engine p.old.engine) p.old.next p.old.events (clauses_of_engine p.new.engine) p.new.next p.new.events (steps.Weaken lits.now) r) }
-    ensures inside { p.new.events.reserved ≤ p.new.engine.vars }
+    ensures inside { IsBetweenLines p.new.engine p.new.events }
     ensures next { p.new.next ≤ p.old.next + 1 }
 {
     let set = LitSet::of(p.alloc, lits)?;
-    p.engine.clear();
     let Some(id) = p.engine.store().least_active(&set) else {
         return Ok(Some(Rule::NotActive(1)));
     };
+    release(&mut p.engine, id);
     match p.engine.weaken(id) {
         Ok(()) => Ok(None),
         Err(_) => Err(AllocError),
@@ -198,13 +211,12 @@ fn judge_weakening(p: &mut Parts, lits: &[Lit]) -> Result<Option<Rule>, AllocErr
 
 /// Judges a restoring: of the least weakened id of the clause.
 fn judge_restoring(p: &mut Parts, lits: &[Lit]) -> Result<Option<Rule>, AllocError>
-    requires { p.old.events.reserved ≤ p.old.engine.vars }
+    requires { IsBetweenLines p.old.engine p.old.events }
     ensures judged { IfOk result (λ r. Judged (clauses_of_engine p.old.engine) p.old.next p.old.events (clauses_of_engine p.new.engine) p.new.next p.new.events (steps.Restore lits.now) r) }
-    ensures inside { p.new.events.reserved ≤ p.new.engine.vars }
+    ensures inside { IsBetweenLines p.new.engine p.new.events }
     ensures next { p.new.next ≤ p.old.next + 1 }
 {
     let set = LitSet::of(p.alloc, lits)?;
-    p.engine.clear();
     let Some(id) = p.engine.store().least_weakened(&set) else {
         return Ok(Some(Rule::NotWeakened(1)));
     };
@@ -216,10 +228,10 @@ fn judge_restoring(p: &mut Parts, lits: &[Lit]) -> Result<Option<Rule>, AllocErr
 
 /// Judges an event.
 fn judge_event(p: &mut Parts, event: &Event) -> Result<Option<Rule>, AllocError>
-    requires inside { p.old.events.reserved ≤ p.old.engine.vars }
+    requires inside { IsBetweenLines p.old.engine p.old.events }
     requires next { p.old.next < 2 ^ 63 }
     ensures judged { IfOk result (λ r. Judged (clauses_of_engine p.old.engine) p.old.next p.old.events (clauses_of_engine p.new.engine) p.new.next p.new.events (steps.Event event.now) r) }
-    ensures inside { p.new.events.reserved ≤ p.new.engine.vars }
+    ensures inside { IsBetweenLines p.new.engine p.new.events }
     ensures next { p.new.next ≤ p.old.next + 1 }
     ensures frugal { IsTrue (is_frugal (steps.Event event.now)) → IsOk result }
 {
@@ -237,19 +249,16 @@ fn judge_event(p: &mut Parts, event: &Event) -> Result<Option<Rule>, AllocError>
             reserve(p, lits.as_slice())?;
             Ok(judge_model(p, lits.as_slice()))
         }
-        Event::Core(lits) => {
-            reserve(p, lits.as_slice())?;
-            Ok(judge_core(p, lits.as_slice()))
-        }
+        Event::Core(lits) => Ok(judge_core(p, lits.as_slice())),
     }
 }
 
 /// Judges a step.
 fn judge(p: &mut Parts, step: &Step) -> Result<Option<Rule>, AllocError>
-    requires inside { p.old.events.reserved ≤ p.old.engine.vars }
+    requires inside { IsBetweenLines p.old.engine p.old.events }
     requires next { p.old.next < 2 ^ 63 }
     ensures judged { IfOk result (λ r. Judged (clauses_of_engine p.old.engine) p.old.next p.old.events (clauses_of_engine p.new.engine) p.new.next p.new.events step.now r) }
-    ensures inside { p.new.events.reserved ≤ p.new.engine.vars }
+    ensures inside { IsBetweenLines p.new.engine p.new.events }
     ensures next { p.new.next ≤ p.old.next + 1 }
     ensures frugal { IsTrue (is_frugal step.now) → IsOk result }
 {
@@ -281,7 +290,7 @@ impl Model for IdrupSide {
     ghost use Rattle.std.specs.Coded.{codes};
     ghost use Rattle.side_laws.specs.Kept.{clauses_code};
     ghost use Rattle.pair_matcher.specs.Sides.{IdrupView};
-    ghost use Rattle.pair_matcher.specs.Inside.{clauses_of_engine};
+    ghost use Rattle.pair_matcher.specs.Inside.{clauses_of_engine, IsBetweenLines};
 
     ghost Value = { IdrupView };
 
@@ -289,7 +298,7 @@ impl Model for IdrupSide {
 
     ghost view = { λ s. record { live = s.live; clauses = clauses_of_engine s.parts.engine; next = s.parts.next; events = s.parts.events } };
 
-    ghost invariant = { λ s. s.parts.events.reserved ≤ s.parts.engine.vars };
+    ghost invariant = { λ s. IsBetweenLines s.parts.engine s.parts.events };
 }
 
 impl IdrupSide {
@@ -311,8 +320,8 @@ impl IdrupSide {
     }
 
     /// The first own rule that the step breaks, or `None`. After `None` the side is live and stands for the steps so far
-    /// with this one at their end; after a rule, or where memory is wanting, it isn't live and is given up. A status takes
-    /// no memory, and neither does a deletion of at most 16 literals.
+    /// with this one at their end; after a rule, or where memory is wanting, it isn't live and is given up. A status and a
+    /// core take no memory, and neither does a deletion of at most 16 literals.
     pub fn step(&mut self, step: &Step) -> Result<Option<Rule>, AllocError>
         requires live { IsTrue self.old.live }
         requires next { self.old.next < 2 ^ 63 }
@@ -326,6 +335,21 @@ impl IdrupSide {
         let judged = judge(&mut self.parts, step);
         self.live = matches!(judged, Ok(None));
         judged
+    }
+
+    /// The literals of the last query, in its order and with its repeats; none before the first query.
+    pub fn assumed(&self) -> &[Lit]
+        ensures { result.now ≡ self.now.events.assumed }
+    {
+        self.parts.events.assumed()
+    }
+
+    /// A variable that no literal of the last query is beyond.
+    pub fn reserved(&self) -> u32
+        ensures limit { result ≤ max_var }
+        ensures assumed { All (λ l. var l ≤ result) self.now.events.assumed }
+    {
+        self.parts.events.reserved()
     }
 
     /// Unfinished exactly where a query is open.

@@ -1,10 +1,15 @@
-//! The two sides of a check, which judge a proof by itself, step by step.
+//! The check of an interaction and a proof, and the two sides that judge a proof by itself, step by step.
 #![tactic(auto)]
 
+mod checking;
 mod idrup;
 mod lidrup;
 mod literals;
+mod proof_side;
+#[cfg(test)]
+mod tests;
 mod turns;
 
+pub use checking::{CheckFault, check_pair};
 pub use idrup::IdrupSide;
 pub use lidrup::LidrupSide;

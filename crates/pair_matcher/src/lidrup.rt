@@ -1,6 +1,7 @@
 // The side of a proof with ids. It keeps the clauses by id and what the events say, and checks hints over the active clauses.
 
-ghost use Rattle.std.specs.Prelude.{◌≡◌, List, [], ◌∷◌, ◌++◌, true, false, IsTrue, IfOk, IfNone, IsOk, OnOk, OnErr, is_none};
+ghost use Rattle.std.specs.Prelude.{◌≡◌, ◌≤◌, List, [], ◌∷◌, ◌++◌, true, false, IsTrue, IfOk, IfNone, IsOk, OnOk, OnErr, is_none, All};
+ghost use Rattle.lits.specs.Literal.{max_var, var};
 ghost use Rattle.session_rules.specs.declared.LStep.{LStep};
 ghost use Rattle.session_rules.specs.declared.LStep.TheVariants as lsteps;
 ghost use Rattle.session_rules.specs.History.{phase, broken_unless};
@@ -281,6 +282,21 @@ impl LidrupSide {
         let judged = judge(&mut self.parts, step);
         self.live = matches!(judged, Ok(None));
         judged
+    }
+
+    /// The literals of the last query, in its order and with its repeats; none before the first query.
+    pub fn assumed(&self) -> &[Lit]
+        ensures { result.now ≡ self.now.events.assumed }
+    {
+        self.parts.events.assumed()
+    }
+
+    /// A variable that no literal of the last query is beyond.
+    pub fn reserved(&self) -> u32
+        ensures limit { result ≤ max_var }
+        ensures assumed { All (λ l. var l ≤ result) self.now.events.assumed }
+    {
+        self.parts.events.reserved()
     }
 
     /// Unfinished exactly where a query is open.

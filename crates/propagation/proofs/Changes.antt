@@ -3,7 +3,7 @@ use Rattle.std.proofs.Common.{◌≡◌, ◌≢◌, ℕ, suc, zero, ◌+◌, ◌
 use Rattle.std.specs.Prelude.{is_some, option_map, option_and_then, IsTrue, Result, Ok, Err, IfOk, IfErr}
 use Rattle.clause_store.specs.declared.StoreFault.{StoreFault}
 use Rattle.clause_store.specs.declared.StoreFault.TheVariants.{NotActive}
-use Rattle.propagation.specs.Inside.{engine_of, IsInside}
+use Rattle.propagation.specs.Watching.{engine_of}
 use Rattle.std.proofs.lemmas.Option.{same_Some, none-some}
 use Rattle.std.proofs.lemmas.Bool.{cases_Bool, both_ways, and_parts, and_from, or_left, or_right}
 use Rattle.std.proofs.lemmas.Bool.Decides.{nat_tests}
@@ -15,6 +15,9 @@ use Rattle.lits.specs.Clause.{set_of}
 use Rattle.session_rules.specs.Logic.{has, is_unit}
 use Rattle.lits.proofs.Members.{here, there, not_in_nil, here_or_there, all_from, has_at, has_from}
 use Rattle.clause_store.specs.Clauses.{Held, Store, slot_at, is_active, is_held, IsFresh, new_clause}
+use Rattle.clause_store.specs.Clauses.{with_place}
+use Rattle.watch_chains.specs.Links.{unlinked, no_links}
+use Rattle.watch_chains.proofs.Placed.{get-unlinked}
 use Rattle.propagation.specs.declared.Step.{Step}
 use Rattle.std.proofs.Common.{◌&&◌, not}
 use Rattle.std.specs.Prelude.{is_none, unwrap_or}
@@ -24,10 +27,10 @@ use Rattle.propagation.specs.Clauses.{Clause, Clauses, clause_of, clauses_of, sl
 use Rattle.propagation.specs.Engine.{EngineView, IsEngine, IsStep, IsReason, IsNoReason, IsFree, IsRestored, weakened_clause, literals, with_step, with_clauses, with_vars, no_engine, active_clause, level_after, is_assumed}
 use Rattle.propagation.proofs.ClausesMap.{get-clauses_of, slot_of-clauses_of, same_items, unit_same, slot_if_active}
 
-ties : (q : ℕ) → eq_by_cmp nat_cmp q q ≡ true
+pub ties : (q : ℕ) → eq_by_cmp nat_cmp q q ≡ true
 ties q = grind (arith, nat_tests)
 
-differs : (q k : ℕ) → q ≢ k → eq_by_cmp nat_cmp q k ≡ false
+pub differs : (q k : ℕ) → q ≢ k → eq_by_cmp nat_cmp q k ≡ false
 differs q k ne = grind (arith, nat_tests)
 
 pub cases : (q i : ℕ) → (q ≡ i) ⊎ (q ≢ i)
@@ -65,8 +68,6 @@ undone m k h free = same_map nat_cmp_total nat_cmp-IsAntisymmetric _ _ (λ q. el
   | inr n ↦ rw (get-remove nat_cmp_total, differs q k n, get-insert nat_cmp_total, differs q k n) refl
 ])
 
--- ---- The ids that are looked at
-
 pub is_held-insert : (m : Store) (k q : ℕ) (h : Held) → q ≢ k → is_held (insert m k h) q ≡ is_held m q
 is_held-insert m k q h n = rw (get-insert nat_cmp_total, differs q k n) refl
 
@@ -88,18 +89,12 @@ module _ {X : Type 0} where
   in_middle [] ys x = here x ys
   in_middle (y ∷ xs) ys x = there y x (xs ++ x ∷ ys) (in_middle xs ys x)
 
-pub listed-insert : (m : Store) (ids : List ℕ) (k : ℕ) (h : Held) → ((x : ℕ) → IsTrue (is_held m x) → Contains ids x) → (x : ℕ) → IsTrue (is_held (insert m k h) x) → Contains (ids ++ k ∷ []) x
-listed-insert m ids k h l x a = elim (cases x k) [
-  | inl y ↦ subst (λ z. Contains (ids ++ k ∷ []) z) (sym y) (in_middle ids [] k)
-  | inr n ↦ in_left ids (k ∷ []) x (l x (sym (is_held-insert m k x h n) ∙ a))
-]
-
 -- ---- The engine
 
 active_at-insert_other : (m : Clauses) (k q : ℕ) (c : Clause) → q ≢ k → active_at (insert m k c) q ≡ active_at m q
 active_at-insert_other m k q c n = rw (get-insert nat_cmp_total, differs q k n) refl
 
-slot_of-insert_other : (m : Clauses) (k q : ℕ) (c : Clause) → q ≢ k → slot_of (insert m k c) q ≡ slot_of m q
+pub slot_of-insert_other : (m : Clauses) (k q : ℕ) (c : Clause) → q ≢ k → slot_of (insert m k c) q ≡ slot_of m q
 slot_of-insert_other m k q c n = rw (get-insert nat_cmp_total, differs q k n) refl
 
 slot_of-insert_same : (m : Clauses) (k : ℕ) (c : Clause) → slot_of (insert m k c) k ≡ c.slot
@@ -202,44 +197,12 @@ IsEngine-none = record {
 
 -- ---- The engine's fields
 
-pub inside_added : (m n : Store) (ids more : List ℕ) (steps : List Step) (trail : List ℕ) (vars a b k : ℕ) (ls : List ℕ) (r : Result ℕ StoreFault) → IsInside m ids steps trail vars a b
-    → ((x : ℕ) → IsTrue (is_held n x) → Contains more x) → IfOk r (λ s. IsFresh m s) → IfOk r (λ s. n ≡ insert m k (new_clause ls s)) → IfOk r (λ _. is_held m k ≡ false) → IfErr r (λ _. n ≡ m)
-    → ((l : ℕ) → Contains ls l → var l ≤ vars) → IsInside n more steps trail vars a b
-inside_added m n ids more steps trail vars a b k ls (Ok s) h listed fresh ok free err reserved = record {
-  sound = let at : clauses_of n ≡ insert (clauses_of m) k (active_clause ls s) = ap clauses_of ok ∙ clauses_of-insert m k (new_clause ls s) in
-      subst (λ z. IsEngine (record { clauses = z; trail = steps; vars = vars })) (sym at)
-      (IsEngine-insert (engine_of m steps vars) k s ls h.sound (get-clauses_of m k ∙ ap (option_map clause_of) (get-from_held m k free)) (λ id e. fresh id (sym (slot_of-clauses_of m id) ∙ e)) reserved);
-  listed = listed;
-  same = h.same;
-  steps_fit = h.steps_fit;
-  trail_fits = h.trail_fits;
-}
-inside_added m n ids more steps trail vars a b k ls (Err e) h listed fresh ok free err reserved = record {
-  sound = subst (λ z. IsEngine (engine_of z steps vars)) (sym err) h.sound;
-  listed = listed;
-  same = h.same;
-  steps_fit = h.steps_fit;
-  trail_fits = h.trail_fits;
-}
-
 pub value_added : (m n : Store) (e : EngineView) (k : ℕ) (ls : List ℕ) (steps : List Step) (vars : ℕ) (r : Result ℕ StoreFault) → engine_of m steps vars ≡ e → IfOk r (λ s. n ≡ insert m k (new_clause ls s))
     → IfOk r (λ s. engine_of n steps vars ≡ with_clauses e (insert e.clauses k (active_clause ls s)))
 value_added m n e k ls steps vars (Ok s) v ok =
     let at : clauses_of n ≡ insert (clauses_of m) k (active_clause ls s) = ap clauses_of ok ∙ clauses_of-insert m k (new_clause ls s) in
     (λ i. record { clauses = at i; trail = steps; vars = vars }) ∙ ap (λ z. with_clauses z (insert z.clauses k (active_clause ls s))) v
 value_added m n e k ls steps vars (Err f) v ok = ok
-
-pub inside_removed : (m n : Store) (e : EngineView) (ids : List ℕ) (steps : List Step) (trail : List ℕ) (vars a b k : ℕ) (r : Result (Unit {0}) StoreFault) → IsInside m ids steps trail vars a b → engine_of m steps vars ≡ e
-    → IsNoReason e k → IfOk r (λ _. n ≡ remove m k) → IfErr r (λ f. (f ≡ NotActive) × (n ≡ m)) → IsInside n ids steps trail vars a b
-inside_removed m n e ids steps trail vars a b k (Ok u) h v none ok err = record {
-  sound = let at : clauses_of n ≡ remove (clauses_of m) k = ap clauses_of ok ∙ clauses_of-remove m k in
-      subst (λ z. IsEngine (record { clauses = z; trail = steps; vars = vars })) (sym at) (IsEngine-remove (engine_of m steps vars) k h.sound (subst (λ z. IsNoReason z k) (sym v) none));
-  listed = λ x q. h.listed x (is_held-remove m k x (subst (λ z. is_held z x ≡ true) ok q));
-  same = h.same;
-  steps_fit = h.steps_fit;
-  trail_fits = h.trail_fits;
-}
-inside_removed m n e ids steps trail vars a b k (Err f) h v none ok err = subst (λ z. IsInside z ids steps trail vars a b) (sym err.1) h
 
 pub value_removed : (m n : Store) (e : EngineView) (k : ℕ) (steps : List Step) (vars : ℕ) (r : Result (Unit {0}) StoreFault) → engine_of m steps vars ≡ e → IfOk r (λ _. n ≡ remove m k)
     → IfOk r (λ _. engine_of n steps vars ≡ with_clauses e (remove e.clauses k))
@@ -262,15 +225,6 @@ level_after-le (s ∷ ss) = let r = level_after-le ss in elim (cases_Bool (is_as
 
 pub value_new : (m : Store) (steps : List Step) → m ≡ empty → steps ≡ [] → engine_of m steps 0 ≡ no_engine
 value_new m steps e f = λ i. record { clauses = (ap clauses_of e ∙ clauses_of-empty) i; trail = f i; vars = 0 }
-
-pub inside_new : (m : Store) (ids : List ℕ) (steps : List Step) (trail : List ℕ) (a b : ℕ) → m ≡ empty → steps ≡ [] → trail ≡ [] → IsInside m ids steps trail 0 a b
-inside_new m ids steps trail a b e f g = record {
-  sound = subst IsEngine (sym (value_new m steps e f)) IsEngine-none;
-  listed = λ x h. let n : is_held empty x ≡ false = rw (get-empty nat_cmp x) refl in absurd (both_ways _ n (subst (λ z. is_held z x ≡ true) e h));
-  same = g ∙ sym (ap literals f);
-  steps_fit = omega arith;
-  trail_fits = omega arith;
-}
 
 -- ---- A clause whose first literal follows
 
@@ -310,7 +264,7 @@ asserted e new last k s l ls is first put = put ∙ ap (λ z. with_step new z (S
 
 -- ---- Faults
 
-held_seen : (m : Store) (k : ℕ) → contains_key (clauses_of m) k ≡ is_held m k
+pub held_seen : (m : Store) (k : ℕ) → contains_key (clauses_of m) k ≡ is_held m k
 held_seen m k = ap is_some (get-clauses_of m k) ∙ mapped (get m k)
   where
     mapped : (o : Option Held) → is_some (option_map clause_of o) ≡ is_some o
@@ -353,7 +307,7 @@ literals_seen m k = ap (λ o. unwrap_or (option_map (λ c. c.literals) o) []) (g
     by_value (Some h) = refl
 
 -- the variables of a clause's set are reserved
-literals-reserved : (e : EngineView) (k l : ℕ) → IsEngine e → Contains (seen.literals_at e.clauses k) l → var l ≤ e.vars
+pub literals-reserved : (e : EngineView) (k l : ℕ) → IsEngine e → Contains (seen.literals_at e.clauses k) l → var l ≤ e.vars
 literals-reserved e k l h m = by_value (get e.clauses k) refl
   where
     by_value : (o : Option Clause) → get e.clauses k ≡ o → var l ≤ e.vars
@@ -375,35 +329,17 @@ fresh_seen m e steps vars (Err f) v h = h
 pub free_seen : (m : Store) (e : EngineView) (steps : List Step) (vars k : ℕ) → engine_of m steps vars ≡ e → contains_key e.clauses k ≡ is_held m k
 free_seen m e steps vars k v = sym (ap (λ z. contains_key z.clauses k) v) ∙ held_seen m k
 
-held_if_active : (m : Store) (k : ℕ) → is_active m k ≡ true → is_held m k ≡ true
+pub held_if_active : (m : Store) (k : ℕ) → is_active m k ≡ true → is_held m k ≡ true
 held_if_active m k a = by_value (get m k) refl
   where
     by_value : (o : Option Held) → get m k ≡ o → is_held m k ≡ true
     by_value None g = let f : is_active m k ≡ false = rw g refl in absurd (both_ways _ f a)
     by_value (Some h) g = rw g refl
 
-listed-kept : (m : Store) (ids : List ℕ) (k : ℕ) (h : Held) → ((x : ℕ) → IsTrue (is_held m x) → Contains ids x) → is_held m k ≡ true → (x : ℕ) → IsTrue (is_held (insert m k h) x) → Contains ids x
-listed-kept m ids k h l here x a = elim (cases x k) [
-  | inl y ↦ l x (subst (λ z. is_held m z ≡ true) (sym y) here)
-  | inr n ↦ l x (sym (is_held-insert m k x h n) ∙ a)
-]
-
 -- ---- A clause weakened
 
-clauses_of-weakened : (m n : Store) (k : ℕ) → n ≡ insert m k (held.weakened_clause (held.literals_at m k)) → clauses_of n ≡ insert (clauses_of m) k (weakened_clause (seen.literals_at (clauses_of m) k))
+pub clauses_of-weakened : (m n : Store) (k : ℕ) → n ≡ insert m k (held.weakened_clause (held.literals_at m k)) → clauses_of n ≡ insert (clauses_of m) k (weakened_clause (seen.literals_at (clauses_of m) k))
 clauses_of-weakened m n k e = ap clauses_of e ∙ clauses_of-insert m k (held.weakened_clause (held.literals_at m k)) ∙ ap (λ z. insert (clauses_of m) k (weakened_clause z)) (sym (literals_seen m k))
-
-pub inside_weakened : (m n : Store) (e : EngineView) (ids : List ℕ) (steps : List Step) (trail : List ℕ) (vars a b k : ℕ) (r : Result (Unit {0}) StoreFault) → IsInside m ids steps trail vars a b → engine_of m steps vars ≡ e
-    → IsNoReason e k → IfOk r (λ _. n ≡ insert m k (held.weakened_clause (held.literals_at m k))) → IfOk r (λ _. IsTrue (is_active m k)) → IfErr r (λ _. n ≡ m) → IsInside n ids steps trail vars a b
-inside_weakened m n e ids steps trail vars a b k (Ok u) h v none ok on err = record {
-  sound = subst (λ z. IsEngine (record { clauses = z; trail = steps; vars = vars })) (sym (clauses_of-weakened m n k ok))
-      (IsEngine-put (engine_of m steps vars) k (weakened_clause (seen.literals_at (clauses_of m) k)) h.sound (subst (λ z. IsNoReason z k) (sym v) none) (λ s is. absurd (none-some s is)) (λ l c. literals-reserved (engine_of m steps vars) k l h.sound c));
-  listed = subst (λ z. (x : ℕ) → IsTrue (is_held z x) → Contains ids x) (sym ok) (listed-kept m ids k (held.weakened_clause (held.literals_at m k)) h.listed (held_if_active m k on));
-  same = h.same;
-  steps_fit = h.steps_fit;
-  trail_fits = h.trail_fits;
-}
-inside_weakened m n e ids steps trail vars a b k (Err f) h v none ok on err = subst (λ z. IsInside z ids steps trail vars a b) (sym err) h
 
 pub value_weakened : (m n : Store) (e : EngineView) (k : ℕ) (steps : List Step) (vars : ℕ) (r : Result (Unit {0}) StoreFault) → engine_of m steps vars ≡ e → IfOk r (λ _. n ≡ insert m k (held.weakened_clause (held.literals_at m k)))
     → IfOk r (λ _. engine_of n steps vars ≡ with_clauses e (insert e.clauses k (weakened_clause (seen.literals_at e.clauses k))))
@@ -413,34 +349,37 @@ value_weakened m n e k steps vars (Err f) v ok = ok
 
 -- ---- A clause restored
 
-clauses_of-restored : (m n : Store) (k : ℕ) (r : held.IsRestored m k n) → clauses_of n ≡ insert (clauses_of m) k (record { literals = seen.literals_at (clauses_of m) k; slot = Some r.slot })
+pub clauses_of-restored : (m n : Store) (k : ℕ) (r : held.IsRestored m k n) → clauses_of n ≡ insert (clauses_of m) k (record { literals = seen.literals_at (clauses_of m) k; slot = Some r.slot })
 clauses_of-restored m n k r = ap clauses_of r.changed ∙ clauses_of-insert m k (held.active_clause (held.literals_at m k) r.lits r.slot) ∙ ap (λ z. insert (clauses_of m) k (record { literals = z; slot = Some r.slot })) (sym (literals_seen m k))
 
-pub inside_restored : (m n : Store) (ids : List ℕ) (steps : List Step) (trail : List ℕ) (vars a b k : ℕ) (r : Result (Unit {0}) StoreFault) → IsInside m ids steps trail vars a b
-    → IfOk r (λ _. held.IsRestored m k n) → IfOk r (λ _. IsTrue (held.is_weakened m k)) → IfErr r (λ _. n ≡ m) → IsInside n ids steps trail vars a b
-inside_restored m n ids steps trail vars a b k (Ok u) h ok weak err =
-    let parts = and_parts (is_held m k) _ weak in
-    let off : slot_of (clauses_of m) k ≡ None = slot_of-clauses_of m k ∙ none_of (slot_at m k) parts.1 in
-    record {
-      sound = subst (λ z. IsEngine (record { clauses = z; trail = steps; vars = vars })) (sym (clauses_of-restored m n k ok))
-          (IsEngine-put (engine_of m steps vars) k (record { literals = seen.literals_at (clauses_of m) k; slot = Some ok.slot }) h.sound (no_reason-slotless (engine_of m steps vars) k off)
-          (λ s is id at. ok.fresh id (sym (slot_of-clauses_of m id) ∙ at ∙ sym is)) (λ l c. literals-reserved (engine_of m steps vars) k l h.sound c));
-      listed = subst (λ z. (x : ℕ) → IsTrue (is_held z x) → Contains ids x) (sym ok.changed) (listed-kept m ids k (held.active_clause (held.literals_at m k) ok.lits ok.slot) h.listed parts.0);
-      same = h.same;
-      steps_fit = h.steps_fit;
-      trail_fits = h.trail_fits;
-    }
-  where
-    none_of : (o : Option ℕ) → not (is_some o) ≡ true → o ≡ None
-    none_of None e = refl
-    none_of (Some s) e = cc e
-inside_restored m n ids steps trail vars a b k (Err f) h ok weak err = subst (λ z. IsInside z ids steps trail vars a b) (sym err) h
-
-pub value_restored : (m n : Store) (e : EngineView) (k : ℕ) (steps : List Step) (vars : ℕ) (r : Result (Unit {0}) StoreFault) → engine_of m steps vars ≡ e → IfOk r (λ _. held.IsRestored m k n)
-    → IfOk r (λ _. IsRestored e k (engine_of n steps vars))
-value_restored m n e k steps vars (Ok u) v ok = subst (λ z. IsRestored z k (engine_of n steps vars)) v (record {
+pub value_back : (m n : Store) (e : EngineView) (k : ℕ) (steps : List Step) (vars : ℕ) → engine_of m steps vars ≡ e → held.IsRestored m k n → IsRestored e k (engine_of n steps vars)
+value_back m n e k steps vars v ok = subst (λ z. IsRestored z k (engine_of n steps vars)) v (record {
   slot = ok.slot;
   fresh = λ x at. ok.fresh x (sym (slot_of-clauses_of m x) ∙ at);
   changed = λ i. record { clauses = clauses_of-restored m n k ok i; trail = steps; vars = vars };
 })
-value_restored m n e k steps vars (Err f) v ok = ok
+
+-- ---- Clauses without their links
+
+pub clauses_of-unlinked : (m : Store) → clauses_of (unlinked m) ≡ clauses_of m
+clauses_of-unlinked m = same _ _ (λ q. get-clauses_of (unlinked m) q ∙ ap (option_map clause_of) (get-unlinked m q) ∙ no_link (get m q) ∙ sym (get-clauses_of m q))
+  where
+    no_link : (o : Option Held) → option_map clause_of (option_map (with_place no_links) o) ≡ option_map clause_of o
+    no_link None = refl
+    no_link (Some h) = ap Some (by_place h.literals h.place)
+      where
+        by_place : (ls : List ℕ) (o : Option held.Place) → clause_of (with_place no_links (record { literals = ls; place = o })) ≡ clause_of (record { literals = ls; place = o })
+        by_place ls None = refl
+        by_place ls (Some p) = refl
+
+-- ---- A clause that has come
+
+pub slot_inserted : (m n : Store) (k s : ℕ) (ls : List ℕ) → n ≡ insert m k (new_clause ls s) → slot_at n k ≡ Some s
+slot_inserted m n k s ls e = subst (λ z. slot_at z k ≡ Some s) (sym e) (rw (get-insert nat_cmp_total, ties k) refl)
+
+pub value_put : (m n : Store) (e : EngineView) (k : ℕ) (ls : List ℕ) (steps : List Step) (vars s : ℕ) → engine_of m steps vars ≡ e → n ≡ insert m k (new_clause ls s)
+    → engine_of n steps vars ≡ with_clauses e (insert e.clauses k (active_clause ls s))
+value_put m n e k ls steps vars s v ok = value_added m n e k ls steps vars (Ok s) v ok
+
+pub slot_of-seen : (m : Store) (e : EngineView) (steps : List Step) (vars k : ℕ) → engine_of m steps vars ≡ e → slot_at m k ≡ slot_of e.clauses k
+slot_of-seen m e steps vars k v = sym (slot_of-clauses_of m k) ∙ ap (λ z. slot_of z.clauses k) v

@@ -1,20 +1,19 @@
 -- The clauses of an engine and those of its store.
-use Rattle.std.proofs.Common.{◌≡◌, ◌≢◌, ℕ, suc, zero, ◌+◌, ◌<◌, ◌≤◌, ◌⊎◌, List, [], ◌∷◌, ◌++◌, length, map, get_or, Option, Some, None, refl, sym, ap, ◌∙◌, subst, inl, inr, arith, cond, true, false, Bool, nat_eq, ◌||◌, ◌&&◌, Contains, eqb-true}
-use Rattle.std.specs.Prelude.{is_some, option_map, option_and_then, unwrap_or}
+use Rattle.std.proofs.Common.{◌≡◌, ℕ, ◌⊎◌, List, [], ◌∷◌, map, Option, Some, None, refl, sym, ap, ◌∙◌, subst, inl, inr, true, Bool, nat_eq, ◌||◌, Contains, eqb-true}
+use Rattle.std.specs.Prelude.{is_some, option_map, option_and_then}
 use Rattle.std.specs.List.{list_any, list_all}
 use Rattle.std.proofs.lemmas.Option.{same_Some, none-some}
-use Rattle.std.proofs.lemmas.Bool.{cases_Bool, both_ways, and_parts, and_from, or_cases, or_left, or_right}
+use Rattle.std.proofs.lemmas.Bool.{cases_Bool, both_ways, and_parts, and_from, or_cases}
 use Rattle.std.specs.Ordering.{nat_cmp, eq_by_cmp}
 use Rattle.std.specs.Cmp.{nat_cmp_total, unsigned_tied}
 use Rattle.std.specs.FinMap.{get, entries, find, keys, get-entries, get-from_entries, contains_key-keys}
-use Rattle.lits.specs.Literal.{neg}
 use Rattle.session_rules.specs.Logic.{has, is_falsified, is_unit}
-use Rattle.lits.proofs.Members.{here, there, not_in_nil, here_or_there, all_at, all_from, any_at, any_from, has_at, has_from}
-use Rattle.clause_store.specs.Clauses.{Held, Place, Store, slot_at, place_at, lits_at, IsStore}
+use Rattle.lits.proofs.Members.{here, there, not_in_nil, here_or_there, all_at, all_from, has_at, has_from}
+use Rattle.clause_store.specs.Clauses.{Held, Place, Store, slot_at, lits_at, IsStore}
 use Rattle.lits.specs.Clause.{set_of}
 use Rattle.lits.proofs.Ascending.{has-set_of}
-use Rattle.propagation.specs.Clauses.{Clause, Clauses, clause_of, clauses_of, slot_of, active_at, if_active, active_among, with_clause, active}
-use Rattle.propagation.specs.Engine.{IsQuiet, IsFree}
+use Rattle.propagation.specs.Clauses.{Clause, Clauses, clause_of, clauses_of, slot_of, active_at, active_among, with_clause, active}
+use Rattle.propagation.specs.Engine.{IsQuiet}
 
 -- ---- Members
 

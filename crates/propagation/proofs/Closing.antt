@@ -1,19 +1,20 @@
 -- What a trail says of closing sequences.
-use Rattle.std.proofs.Common.{◌≡◌, ◌≢◌, ℕ, suc, zero, ◌+◌, ◌<◌, ◌≤◌, ◌⊎◌, List, [], ◌∷◌, ◌++◌, length, map, Option, Some, None, refl, sym, ap, ◌∙◌, subst, inl, inr, arith, true, false, Bool, nat_eq, ◌||◌, Contains, eqb-true, eq-eqb, append_assoc}
-use Rattle.std.specs.List.{list_any, list_all}
+use Rattle.std.proofs.Common.{◌≡◌, ℕ, ◌⊎◌, List, [], ◌∷◌, ◌++◌, Option, Some, None, refl, sym, ◌∙◌, subst, inl, inr, true, false, nat_eq, ◌||◌, Contains, eqb-true, eq-eqb, append_assoc}
+use Rattle.std.specs.List.{list_any}
 use Rattle.std.proofs.lemmas.List.{append-nil}
 use Rattle.std.proofs.lemmas.Bool.{cases_Bool, both_ways, and_parts, and_from, or_cases, or_left, or_right}
-use Rattle.lits.specs.Literal.{var, neg}
-use Rattle.lits.proofs.Literal.{neg-ne, neg_swap, neg-neg}
+use Rattle.lits.specs.Literal.{neg}
+use Rattle.lits.proofs.Literal.{neg-ne, neg_swap}
 use Rattle.session_rules.specs.Logic.{has, is_falsified, is_unit, is_tautology, is_closed, Propagates, trues_after, Closes}
-use Rattle.lits.proofs.Members.{here, there, all_at, all_from, any_at, any_from, has_at, has_from}
+use Rattle.lits.proofs.Members.{all_at, all_from, any_at, any_from, has_at, has_from}
 use Rattle.session_rules.proofs.Closing.{Closes-cons}
 use Rattle.session_rules.proofs.Rounds.{tautology-within}
 use Rattle.propagation.specs.declared.Step.{Step}
-use Rattle.propagation.specs.Clauses.{Clauses, slot_of, active_at, active}
-use Rattle.propagation.specs.Engine.{EngineView, IsEngine, IsStep, IsFree, IsReason, IsQuiet, IsPropagated, IsFalseAt, AssumesFrom, literals}
+use Rattle.propagation.specs.Clauses.{active}
+use Rattle.propagation.specs.Engine.{EngineView, IsEngine, IsFree, IsQuiet, IsPropagated, IsFalseAt, AssumesFrom, literals}
+use Rattle.propagation.specs.Assigned.{AreNew}
 use Rattle.propagation.proofs.ClausesMap.{Contains-active, at_active}
-use Rattle.propagation.proofs.Trail.{literals-push}
+use Rattle.propagation.proofs.Trail.{new_steps}
 
 -- each of these literals is among those
 abbrev pub Within : List ℕ → List ℕ → Type 0
@@ -82,7 +83,7 @@ pub has-push_new : (ss : List Step) (s : Step) → has (literals (ss ++ s ∷ []
 has-push_new [] s = or_left (nat_eq s.lit s.lit) false (eq-eqb s.lit s.lit refl)
 has-push_new (x ∷ ss) s = or_right (nat_eq s.lit x.lit) (has (literals (ss ++ s ∷ [])) s.lit) (has-push_new ss s)
 
-abbrev Consistent : List Step → Type 0
+abbrev pub Consistent : List Step → Type 0
 Consistent ss = (l : ℕ) → has (literals ss) l ≡ true → has (literals ss) (neg l) ≡ true → ⊥
 
 consistent-push : (ss : List Step) (s : Step) → Consistent ss → IsFree (literals ss) s.lit → Consistent (ss ++ s ∷ [])
@@ -97,15 +98,21 @@ consistent-push ss s k free = λ l h n. elim (has-push ss s l h) [
   ]
 ]
 
-consistent : (e : EngineView) (before after : List Step) → IsEngine e → e.trail ≡ before ++ after → Consistent before → Consistent e.trail
-consistent e before [] k at h = subst Consistent (sym (at ∙ append-nil before)) h
-consistent e before (s ∷ after) k at h =
-    consistent e (before ++ s ∷ []) after k (at ∙ sym (append_assoc before (s ∷ []) after)) (consistent-push before s h (k.steps before after s at).free)
+consistent : (n : ℕ) (ss before after : List Step) → AreNew n ss → ss ≡ before ++ after → Consistent before → Consistent ss
+consistent n ss before [] k at h = subst Consistent (sym (at ∙ append-nil before)) h
+consistent n ss before (s ∷ after) k at h =
+    consistent n ss (before ++ s ∷ []) after k (at ∙ sym (append_assoc before (s ∷ []) after)) (consistent-push before s h (k before after s at).free)
+
+pub new-consistent : (n : ℕ) (ss : List Step) → AreNew n ss → Consistent ss
+new-consistent n ss k = consistent n ss [] ss k refl (λ l h n. cc h)
+
+pub consistent_trail : (e : EngineView) → IsEngine e → Consistent e.trail
+consistent_trail e k = new-consistent e.vars e.trail (new_steps e k)
 
 pub trail-consistent : (e : EngineView) → IsEngine e → is_tautology (literals e.trail) ≡ false
 trail-consistent e k = elim (cases_Bool (is_tautology (literals e.trail))) [
   | inl y ↦ let r = any_at (λ l. has (literals e.trail) (neg l)) (literals e.trail) y in
-      absurd (consistent e [] e.trail k refl (λ l h n. cc h) r.0 (has_from (literals e.trail) r.0 r.1) r.2)
+      absurd (consistent_trail e k r.0 (has_from (literals e.trail) r.0 r.1) r.2)
   | inr n ↦ n
 ]
 
@@ -143,6 +150,3 @@ closing_at_false e ls s k a f = closing_along e ls k a (λ all w v. or_right (is
 pub closing_at_opposite : (e : EngineView) (ls : List ℕ) (l : ℕ) → IsEngine e → AssumesFrom e.trail ls → has ls l ≡ true → has (literals e.trail) (neg l) ≡ true → Closes (active e.clauses) ls
 closing_at_opposite e ls l k a h n = closing_along e ls k a (λ all w v. or_left (is_tautology all) (list_any (is_falsified all) (active e.clauses))
     (any_from (λ m. has all (neg m)) all l (has_at all l (v l h)) (w (neg l) n)))
-
-pub consistent_trail : (e : EngineView) → IsEngine e → (l : ℕ) → has (literals e.trail) l ≡ true → has (literals e.trail) (neg l) ≡ true → ⊥
-consistent_trail e k = consistent e [] e.trail k refl (λ l h n. cc h)

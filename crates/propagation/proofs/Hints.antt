@@ -1,20 +1,20 @@
 -- The reasons along a trail are hints that close.
-use Rattle.std.proofs.Common.{◌≡◌, ◌≢◌, ℕ, suc, zero, ◌+◌, ◌<◌, ◌≤◌, ◌⊎◌, List, [], ◌∷◌, ◌++◌, length, filter, Option, Some, None, refl, sym, ap, ◌∙◌, subst, inl, inr, arith, true, false, not, Bool, nat_eq, ◌||◌, Contains, eqb-true, eq-eqb, ne_eqb, append_assoc}
-use Rattle.std.specs.Prelude.{option_map, is_some}
-use Rattle.std.specs.List.{list_any, list_all}
+use Rattle.std.proofs.Common.{◌≡◌, ℕ, ◌+◌, ◌⊎◌, List, [], ◌∷◌, ◌++◌, filter, Option, Some, None, refl, sym, ap, ◌∙◌, subst, inl, inr, true, false, not, nat_eq, ◌||◌, Contains, eqb-true, eq-eqb, ne_eqb, append_assoc}
+use Rattle.std.specs.Prelude.{is_some}
+use Rattle.std.specs.List.{list_all}
 use Rattle.std.proofs.lemmas.List.{append-nil}
-use Rattle.std.proofs.lemmas.Option.{same_Some, none-some}
-use Rattle.std.proofs.lemmas.Bool.{cases_Bool, both_ways, and_parts, or_cases, or_left, or_right, not-true, not_from_false}
+use Rattle.std.proofs.lemmas.Option.{same_Some}
+use Rattle.std.proofs.lemmas.Bool.{cases_Bool, both_ways, and_parts, or_cases, or_left, or_right, not-true}
 use Rattle.lits.specs.Literal.{neg}
-use Rattle.lits.proofs.Literal.{neg-ne, neg_swap, neg-neg}
+use Rattle.lits.proofs.Literal.{neg-ne, neg_swap}
 use Rattle.session_rules.specs.declared.Left.{Left}
 use Rattle.session_rules.specs.declared.Left.TheVariants.{Falsified, UnitLiteral, Open}
-use Rattle.session_rules.specs.Logic.{has, is_falsified, is_unit, is_tautology, left_of, left, after_hint, hints_fail_from, hints_fail}
-use Rattle.lits.proofs.Members.{here, there, not_in_nil, all_at, all_from, any_at, any_from, filter_from, filter_at, has_at, has_from}
+use Rattle.session_rules.specs.Logic.{has, is_falsified, is_unit, is_tautology, left_of, left, hints_fail_from, hints_fail}
+use Rattle.lits.proofs.Members.{here, there, all_at, all_from, any_from, filter_at, has_at}
 use Rattle.session_rules.proofs.Closing.{only_member}
 use Rattle.propagation.specs.declared.Step.{Step}
 use Rattle.propagation.specs.Clauses.{Clauses, slot_of, active_at}
-use Rattle.propagation.specs.Engine.{EngineView, IsEngine, IsReason, literals, ReasonsAre, reason_named, IsFalseAt, AssumesFrom, IsOnce}
+use Rattle.propagation.specs.Engine.{EngineView, IsEngine, literals, ReasonsAre, reason_named, IsFalseAt, AssumesFrom, IsOnce}
 use Rattle.propagation.proofs.Closing.{Within, unit-within, falsified-within, has-push, consistent_trail}
 
 -- ---- What is left of a clause

@@ -1,17 +1,16 @@
 -- What a scan over the ids finds.
-use Rattle.std.proofs.Common.{◌≡◌, ◌≢◌, ℕ, suc, zero, ◌+◌, ◌<◌, ◌≤◌, ◌⊎◌, List, [], ◌∷◌, ◌++◌, length, map, get_or, Option, Some, None, refl, sym, ap, ◌∙◌, subst, inl, inr, arith, true, false, Bool, nat_eq, ◌||◌, ◌&&◌, Contains, eqb-true}
-use Rattle.std.specs.Prelude.{is_some}
-use Rattle.std.specs.List.{list_any, list_all}
+use Rattle.std.proofs.Common.{◌≡◌, ℕ, suc, zero, ◌<◌, List, [], ◌∷◌, length, get_or, Option, Some, None, refl, sym, ◌∙◌, subst, inl, inr, arith, true, false, Bool, nat_eq, ◌||◌, Contains, eqb-true}
+use Rattle.std.specs.List.{list_all}
 use Rattle.std.proofs.lemmas.Option.{same_Some, none-some}
 use Rattle.std.proofs.lemmas.Bool.{cases_Bool, both_ways, and_parts, and_from, or_cases}
 use Rattle.lits.specs.Literal.{neg}
 use Rattle.session_rules.specs.Logic.{has, is_falsified, is_unit}
-use Rattle.lits.proofs.Members.{here, there, not_in_nil, here_or_there, all_at, all_from, has_at, has_from}
+use Rattle.lits.proofs.Members.{here, there, not_in_nil, here_or_there, all_at}
 use Rattle.clause_store.specs.Clauses.{Held, Store, slot_at, lits_at, is_held, IsStore}
 use Rattle.std.specs.FinMap.{get}
 use Rattle.propagation.specs.Clauses.{clauses_of, slot_of, active_at}
-use Rattle.propagation.specs.Engine.{IsQuiet, IsFree, IsReason}
-use Rattle.propagation.proofs.ClausesMap.{Active, active-at_slot, falsified_same, unit_same, quiet_same, slot_if_active, slot_of-clauses_of}
+use Rattle.propagation.specs.Engine.{IsQuiet, IsReason}
+use Rattle.propagation.proofs.ClausesMap.{active-at_slot, falsified_same, unit_same, quiet_same, slot_if_active, slot_of-clauses_of}
 
 pub all_by_index : (p : ℕ → Bool) (xs : List ℕ) → ((k : ℕ) → k < length xs → p (get_or xs k 0) ≡ true) → list_all p xs ≡ true
 all_by_index p [] h = refl

@@ -1,20 +1,20 @@
 -- What holds of a trail as it grows and shrinks.
-use Rattle.std.proofs.Common.{◌≡◌, ◌≢◌, ℕ, suc, zero, ◌+◌, ◌-◌, ◌/◌, ◌%◌, ◌*◌, ◌<◌, ◌≤◌, ◌⊎◌, List, [], ◌∷◌, ◌++◌, length, length-append, map, filter, take, get_or, Option, Some, None, refl, sym, ap, ◌∙◌, subst, inl, inr, arith, true, false, Bool, nat_eq, ◌||◌, ◌&&◌, Contains, eqb-true, eq-eqb, ne_eqb, append_assoc}
+use Rattle.std.proofs.Common.{◌≡◌, ◌≢◌, ℕ, suc, ◌+◌, ◌-◌, ◌/◌, ◌<◌, ◌≤◌, ◌⊎◌, List, [], ◌∷◌, ◌++◌, length, length-append, map, Option, Some, None, refl, sym, ap, ◌∙◌, subst, inl, inr, arith, true, false, nat_eq, Contains, eqb-true, ne_eqb, append_assoc}
 use Rattle.std.proofs.lemmas.List.{append-nil}
-use Rattle.std.specs.Prelude.{is_some, is_none}
-use Rattle.std.specs.List.{list_any, list_all, IsDistinct}
+use Rattle.std.specs.List.{list_any, IsDistinct}
 use Rattle.std.specs.Cmp.{nat_eq_equiv}
 use Rattle.std.proofs.lemmas.Map.Keys.{IsDistinct-push}
 use Rattle.std.proofs.lemmas.Map.Steps.{length-le_from_distinct_below}
 use Rattle.std.proofs.lemmas.Option.{same_Some, none-some}
-use Rattle.std.proofs.lemmas.Bool.{cases_Bool, both_ways, and_parts, and_from, or_cases, or_left, or_right, eqb-false}
+use Rattle.std.proofs.lemmas.Bool.{cases_Bool, both_ways, and_parts, or_cases, or_left, or_right, eqb-false}
 use Rattle.lits.specs.Literal.{var, neg}
-use Rattle.session_rules.specs.Logic.{has, is_falsified, is_unit}
-use Rattle.lits.proofs.Members.{has_at, has_from}
+use Rattle.session_rules.specs.Logic.{has}
+use Rattle.lits.proofs.Members.{has_at}
 use Rattle.propagation.specs.declared.Step.{Step}
 use Rattle.std.specs.FinMap.{get}
-use Rattle.propagation.specs.Clauses.{Clause, Clauses, slot_of, active_at}
-use Rattle.propagation.specs.Engine.{EngineView, IsEngine, IsStep, IsFree, IsReason, literals, with_step, with_trail, Grows, level_after, is_assumed, up_to_level, up_to_next}
+use Rattle.propagation.specs.Clauses.{Clause, active_at}
+use Rattle.propagation.specs.Assigned.{IsNew, AreNew}
+use Rattle.propagation.specs.Engine.{EngineView, IsEngine, IsStep, IsFree, IsReason, literals, with_step, with_trail, Grows, level_after, is_assumed}
 
 -- ---- Ends of lists
 
@@ -45,6 +45,23 @@ IsEngine-push e s k step = record {
   clauses_reserved = k.clauses_reserved;
   vars_limit = k.vars_limit;
 }
+
+-- ---- Literals that were new when they came
+
+pub new_steps : (e : EngineView) → IsEngine e → AreNew e.vars e.trail
+new_steps e k before after s at = let step = k.steps before after s at in record { reserved = step.reserved; free = step.free }
+
+pub AreNew-push : (n : ℕ) (ss : List Step) (s : Step) → AreNew n ss → IsNew n ss s.lit → AreNew n (ss ++ s ∷ [])
+AreNew-push n ss s k new before after t at = elim (cut_push ss s before after t at) [
+  | inl r ↦ subst (λ z. IsNew n z t.lit) (sym r.0) (subst (λ z. IsNew n ss z.lit) (sym r.1) new)
+  | inr r ↦ k before r.0 t r.1
+]
+
+pub AreNew-prefix : (n : ℕ) (ss rest : List Step) → AreNew n (ss ++ rest) → AreNew n ss
+AreNew-prefix n ss rest k before after t at = k before (after ++ rest) t (ap (λ z. z ++ rest) at ∙ append_assoc before (t ∷ after) rest)
+
+pub AreNew-more : (n m : ℕ) (ss : List Step) → AreNew n ss → n ≤ m → AreNew m ss
+AreNew-more n m ss k le before after t at = let new = k before after t at in record { reserved = omega (arith, new.reserved, le); free = new.free }
 
 -- ---- Shrinking
 
@@ -95,19 +112,26 @@ counted-push n ss s h free r = rw map-push (
   λ q m. elim (any-push (map place ss) (place s) q m) [ inl f ↦ h.1 q f | inr f ↦ omega arith ],
 )
 
-counted : (e : EngineView) (before after : List Step) → IsEngine e → e.trail ≡ before ++ after → Counted e.vars before → Counted e.vars e.trail
-counted e before [] k at h = subst (Counted e.vars) (sym (at ∙ append-nil before)) h
-counted e before (s ∷ after) k at h = let step = k.steps before after s at in
-    counted e (before ++ s ∷ []) after k (at ∙ sym (append_assoc before (s ∷ []) after)) (counted-push e.vars before s h step.free step.reserved)
+counted : (n : ℕ) (ss before after : List Step) → AreNew n ss → ss ≡ before ++ after → Counted n before → Counted n ss
+counted n ss before [] k at h = subst (Counted n) (sym (at ∙ append-nil before)) h
+counted n ss before (s ∷ after) k at h = let new = k before after s at in
+    counted n ss (before ++ s ∷ []) after k (at ∙ sym (append_assoc before (s ∷ []) after)) (counted-push n before s h new.free new.reserved)
 
 length-map_place : (ss : List Step) → length (map place ss) ≡ length ss
 length-map_place [] = refl
 length-map_place (s ∷ ss) = ap suc (length-map_place ss)
 
-pub trail-le : (e : EngineView) → IsEngine e → length e.trail ≤ e.vars
+pub new-le : (n : ℕ) (ss : List Step) → AreNew n ss → length ss ≤ n
 unfolding IsDistinct
-trail-le e k = let c = counted e [] e.trail k refl (tt, λ q h. cc h) in
-    let b = length-le_from_distinct_below (map place e.trail) e.vars c.0 c.1 in omega (arith, length-map_place e.trail, b)
+new-le n ss k = let c = counted n ss [] ss k refl (tt, λ q h. cc h) in
+    let b = length-le_from_distinct_below (map place ss) n c.0 c.1 in omega (arith, length-map_place ss, b)
+
+-- one that may come there leaves it no longer than the variables
+pub new-room : (n : ℕ) (ss : List Step) (s : Step) → AreNew n ss → IsNew n ss s.lit → length ss < n
+new-room n ss s k new = let b = new-le n (ss ++ s ∷ []) (AreNew-push n ss s k new) in omega (arith, b, length-append ss (s ∷ []))
+
+pub trail-le : (e : EngineView) → IsEngine e → length e.trail ≤ e.vars
+trail-le e k = new-le e.vars e.trail (new_steps e k)
 
 -- a literal that may come on the trail has room there
 pub room : (e : EngineView) (s : Step) → IsEngine e → IsStep e.clauses e.vars e.trail s → length e.trail < e.vars
@@ -116,11 +140,6 @@ room e s k step = let b = trail-le _ (IsEngine-push e s k step) in omega (arith,
 pub literals-push : (ss : List Step) (s : Step) → literals (ss ++ s ∷ []) ≡ literals ss ++ s.lit ∷ []
 literals-push [] s = refl
 literals-push (x ∷ ss) s = ap (λ z. x.lit ∷ z) (literals-push ss s)
-
-pub literals-take : (n : ℕ) (ss : List Step) → literals (take n ss) ≡ take n (literals ss)
-literals-take zero ss = refl
-literals-take (suc n) [] = refl
-literals-take (suc n) (s ∷ ss) = ap (λ z. s.lit ∷ z) (literals-take n ss)
 
 -- ---- One step of a propagation
 
@@ -148,7 +167,7 @@ step_of_reason e trues l s k same r free = record {
 pub smaller : (e new : EngineView) (l : ℕ) (r : Option ℕ) → new ≡ with_step e l r → length e.trail < e.vars → new.vars - length new.trail < e.vars - length e.trail
 smaller e new l r is lt = subst (λ z. z.vars - length z.trail < e.vars - length e.trail) (sym is) (simp (length-append {A = Step}) (omega arith))
 
-level_after-append : (xs ys : List Step) → level_after (xs ++ ys) ≡ level_after xs + level_after ys
+pub level_after-append : (xs ys : List Step) → level_after (xs ++ ys) ≡ level_after xs + level_after ys
 level_after-append [] ys = omega arith
 level_after-append (x ∷ xs) ys = let r = level_after-append xs ys in elim (cases_Bool (is_assumed x)) [
   | inl y ↦ rw y (omega arith)

@@ -1,20 +1,41 @@
--- How the engine's fields give its value.
-use Rattle.std.specs.Prelude.{◌≡◌, ℕ, ◌≤◌, List, Contains, IsTrue}
-use Rattle.clause_store.specs.Clauses.{Store, is_held}
-use Rattle.propagation.specs.declared.Step.{Step}
-use Rattle.propagation.specs.Clauses.{clauses_of}
-use Rattle.propagation.specs.Engine.{EngineView, IsEngine, literals}
+-- What holds inside every engine.
+use Rattle.std.specs.Prelude.{◌≡◌, ◌≢◌, ℕ, ◌*◌, ◌<◌, ◌≤◌, ◌⊎◌, true, List, [], length, drop, get_or}
+use Rattle.std.specs.FinMap.{contains_key}
+use Rattle.session_rules.specs.Logic.{has}
+use Rattle.clause_store.specs.Clauses.{Store}
+use Rattle.watch_chains.specs.Chains.{Watched}
+use Rattle.propagation.specs.declared.Heads.{Heads}
+use Rattle.propagation.specs.Assigned.{Assigned}
+use Rattle.propagation.specs.Clauses.{Clauses, clauses_of, literals_at}
+use Rattle.propagation.specs.Engine.{IsEngine, literals, level_after, up_to_level}
+use Rattle.propagation.specs.Watching.{engine_of, IsReady}
 
--- the fields as callers see them
-abbrev pub engine_of : Store → List Step → ℕ → EngineView
-engine_of m ss n = record { clauses = clauses_of m; trail = ss; vars = n }
+-- two different literals
+pub record HasPair (set : List ℕ) : Type 0 where
+  pub one : ℕ
+  pub two : ℕ
+  pub has_one : has set one ≡ true
+  pub has_two : has set two ≡ true
+  pub differ : one ≢ two
+
+-- the ids are those of all clauses, active or weakened, that haven't two different literals
+abbrev pub AreShorts : Clauses → List ℕ → Type 0
+AreShorts m ids = (id : ℕ) → contains_key m id ≡ true → (has ids id ≡ true) ⊎ HasPair (literals_at m id)
+
+-- so many literals of a trail have been propagated, and so many ids looked at
+pub record IsMark (m : Store) (trues : List ℕ) (head : ℕ) (ids : List ℕ) (short_head : ℕ) : Type 0 where
+  pub head_in : head ≤ length trues
+  pub ids_in : short_head ≤ length ids
+  pub ready : IsReady m trues head (drop short_head ids)
 
 -- what holds inside every engine
-pub record IsInside (store : Store) (ids : List ℕ) (steps : List Step) (trail : List ℕ) (vars steps_room trail_room : ℕ) : Type 0 where
-  pub sound : IsEngine (engine_of store steps vars)
-  -- each clause is looked at
-  pub listed : (id : ℕ) → IsTrue (is_held store id) → Contains ids id
-  pub same : trail ≡ literals steps
-  -- each variable has room on the trail
-  pub steps_fit : vars ≤ steps_room
-  pub trail_fits : vars ≤ trail_room
+pub record IsInside (w : Watched) (a : Assigned) (head : ℕ) (ids : List ℕ) (short_head : ℕ) (levels : List Heads) (levels_room : ℕ) : Type 0 where
+  pub sound : IsEngine (engine_of w.clauses a.steps a.vars)
+  -- each literal of a reserved variable has a chain
+  pub wide : 2 * a.vars ≤ length w.chains
+  pub shorts : AreShorts (clauses_of w.clauses) ids
+  pub now : IsMark w.clauses (literals a.steps) head ids short_head
+  -- for each level, how far its beginning had been propagated
+  pub counted : length levels ≡ level_after a.steps
+  pub before : (j : ℕ) (h : Heads) → j < length levels → h ≡ get_or levels j h → IsMark w.clauses (literals (up_to_level j a.steps)) h.trail ids h.shorts
+  pub levels_fit : a.vars ≤ levels_room

@@ -11,14 +11,21 @@ ghost use Rattle.std.specs.FinMap as finmap;
 ghost use Rattle.clause_store.specs.Clauses.{is_held, IsFresh, new_clause};
 ghost use Rattle.propagation.specs.declared.Step.{Step};
 ghost use Rattle.propagation.specs.Clauses.{clauses_of, active, active_at, slot_of, literals_at, is_weakened};
-ghost use Rattle.propagation.specs.Pending.{IsPending, IsNext};
+ghost use Rattle.watch_chains.specs.Chains.{AreReserved, IsWatched};
+ghost use Rattle.propagation.specs.Inside.{AreShorts};
 ghost use Rattle.lits.specs.Literal.{var};
 ghost use Rattle.propagation.specs.Engine.{EngineView, literals, level_after, value_in, IsFree, IsStep, IsEngine, IsFalseAt, IsPropagated, Grows, with_step, with_trail, with_vars, with_clauses, active_clause, no_engine, reason_in, level_behind, IsNoReason, IsSomeReason, IsRestored, weakened_clause, stands_before, ReasonsAre, AssumesFrom, IsOnce, up_to_level};
 
+mod assignment;
+mod watching;
+
+use crate::assignment::Assignment;
+use crate::watching::{advance, keep_short, look_at, rests};
 use clause_store::{Slot, Store, StoreFault};
-use lits::{Lit, MAX_VAR};
+use lits::Lit;
 use std::alloc::{AllocError, Global};
 use std::marker::Model;
+use watch_chains::Watches;
 
 /// A literal of the trail and the clause that forced it, or none where it was assumed.
 #[derive(Clone, Copy)]
@@ -27,90 +34,53 @@ pub struct Step {
     reason: Option<Slot>,
 }
 
-// Whether a literal is in a list.
-fn has(lits: &[Lit], l: Lit) -> bool
-    ensures { result ≡ logic.has lits.now l }
-{
-    lits.iter().any(|m| l == *m)
-}
-
 /// What follows of a clause: it is false, all but one free literal are, or nothing follows.
+#[derive(Clone, Copy)]
 enum Pending {
     False,
     Unit(Lit),
     Quiet,
 }
 
-/// What follows of all clauses.
-enum Next {
-    False(Slot),
-    Unit(Lit, Slot),
-    Nothing,
-}
-
-/// Whether each literal is false but for this one.
-fn is_false_but(trues: &[Lit], lits: &[Lit], l: Lit) -> bool
-    ensures { result ≡ list_all (λ m. nat_eq l m || logic.has trues.now (neg m)) lits.now }
-{
-    lits.iter().all(|m| l == *m || has(trues, m.neg()))
-}
-
-/// A literal that isn't false.
-fn not_false(trues: &[Lit], lits: &[Lit]) -> Option<Lit>
-    ensures { MatchOption result (logic.is_falsified trues.now lits.now ≡ true) (λ l. Contains lits.now l × (logic.has trues.now (neg l) ≡ false)) }
+/// Whether one of the literals is true with this reason.
+fn is_reason_among(trail: &Assignment, lits: &[Lit], slot: Slot) -> bool
+    ensures yes { IsTrue result → (l : ℕ) × Contains lits.now l × (reason_in trail.now.steps l ≡ Some slot) }
+    ensures no { result ≡ false → (l : ℕ) → Contains lits.now l → reason_in trail.now.steps l ≡ Some slot → ⊥ }
 {
     for l in lits {
-        if !has(trues, l.neg()) {
-            return Some(*l);
-        }
-    }
-    None
-}
-
-/// What follows of a clause.
-fn pending_of(trues: &[Lit], lits: &[Lit]) -> Pending
-    ensures { IsPending trues.now lits.now result }
-{
-    match not_false(trues, lits) {
-        None => Pending::False,
-        Some(l) => {
-            if has(trues, l) {
-                Pending::Quiet
-            } else if is_false_but(trues, lits, l) {
-                Pending::Unit(l)
-            } else {
-                Pending::Quiet
+        if let Some(reason) = trail.reason(*l) {
+            if reason == slot {
+                return true;
             }
         }
     }
+    false
 }
 
-/// What follows of the clauses of a store, whose active ids are among these.
-fn next_of(store: &Store, ids: &[u64], trues: &[Lit]) -> Next
-    requires { (id : ℕ) → IsTrue (is_held store.now id) → Contains ids.now id }
-    ensures { IsNext (clauses_of store.now) trues.now result }
-{
-    for id in ids {
-        if let Some(slot) = store.find(*id) {
-            match pending_of(trues, store.lits(slot)) {
-                Pending::False => return Next::False(slot),
-                Pending::Unit(l) => return Next::Unit(l, slot),
-                Pending::Quiet => {}
-            }
-        }
-    }
-    Next::Nothing
+/// How many literals of the trail have been propagated, and how many ids have been looked at.
+#[derive(Clone, Copy)]
+struct Heads {
+    trail: usize,
+    shorts: usize,
 }
 
 /// Clauses, and a trail of true literals. Contracts see the clauses without the order of their literals, the trail, and
 /// the greatest reserved variable.
 #[derive(Drop)]
 pub struct Engine {
-    store: Store,
-    ids: Vec<u64>,
-    steps: Vec<Step>,
-    trail: Vec<Lit>,
-    vars: u32,
+    watches: Watches,
+    trail: Assignment,
+    // how many literals of the trail have been propagated
+    head: usize,
+    // the ids of clauses that are looked at whatever they watch: those of fewer than two literals, and those of which something
+    // followed when they were added
+    shorts: Vec<u64>,
+    // how many of these have been looked at
+    short_head: usize,
+    // how many ids there may be before those are taken out that needn't be looked at
+    limit: usize,
+    // for each level that has begun, both heads as they were then
+    levels: Vec<Heads>,
 }
 
 impl Model for Engine {
@@ -121,11 +91,12 @@ impl Model for Engine {
     ghost coded = { engine_code };
 
     ghost use Rattle.std.specs.Vec.{vec_capacity};
-    ghost use Rattle.propagation.specs.Inside.{engine_of, IsInside};
+    ghost use Rattle.propagation.specs.Watching.{engine_of};
+    ghost use Rattle.propagation.specs.Inside.{IsInside};
 
-    ghost view = { λ e. engine_of e.store e.steps.items e.vars };
+    ghost view = { λ e. engine_of e.watches.clauses e.trail.steps e.trail.vars };
 
-    ghost invariant = { λ e. IsInside e.store e.ids.items e.steps.items e.trail.items e.vars (vec_capacity e.steps) (vec_capacity e.trail) };
+    ghost invariant = { λ e. IsInside e.watches e.trail e.head e.shorts.items e.short_head e.levels.items (vec_capacity e.levels) };
 }
 
 impl Engine {
@@ -134,11 +105,13 @@ impl Engine {
         ensures { result ≡ no_engine }
     {
         Engine {
-            store: Store::new(alloc),
-            ids: Vec::new(alloc),
-            steps: Vec::new(alloc),
-            trail: Vec::new(alloc),
-            vars: 0,
+            watches: Watches::new(alloc),
+            trail: Assignment::new(alloc),
+            head: 0,
+            shorts: Vec::new(alloc),
+            short_head: 0,
+            limit: 0,
+            levels: Vec::new(alloc),
         }
     }
 
@@ -149,13 +122,12 @@ impl Engine {
         ensures ok { OnOk result (self.new ≡ with_vars self.old (max self.old.vars vars)) }
         ensures err { OnErr result (self.new ≡ self.old) }
     {
-        if vars <= self.vars {
+        if vars <= self.trail.vars() {
             return Ok(());
         }
-        self.steps.reserve(vars as usize)?;
-        self.trail.reserve(vars as usize)?;
-        self.vars = vars;
-        Ok(())
+        self.watches.reserve(vars)?;
+        self.levels.reserve(vars as usize)?;
+        self.trail.reserve(vars)
     }
 
     /// Adds an active clause of literals of reserved variables, at level 0. IdTaken comes exactly where the id is active or
@@ -170,10 +142,17 @@ impl Engine {
         ensures taken { IfErr result (λ e. IsTrue (finmap.contains_key self.old.clauses id) → e ≡ StoreFault.IdTaken) }
         ensures memory { IfErr result (λ e. finmap.contains_key self.old.clauses id ≡ false → e ≡ StoreFault.Memory) }
     {
-        self.insert(id, lits)
+        let slot = match add_listed(&mut self.watches, &mut self.shorts, id, lits) {
+            Ok(slot) => slot,
+            Err(fault) => return Err(fault),
+        };
+        if rests(&mut self.watches, &self.trail, slot) {
+            let _ = self.shorts.pop();
+        }
+        Ok(slot)
     }
 
-    /// Adds an active clause at any level.
+    /// Adds an active clause at any level, which is looked at before the next propagation.
     fn insert(&mut self, id: u64, lits: &[Lit]) -> Result<Slot, StoreFault>
         requires { (l : ℕ) → Contains lits.now l → var l ≤ self.old.vars }
         ensures ok { IfOk result (λ s. self.new ≡ with_clauses self.old (finmap.insert self.old.clauses id (active_clause lits.now s))) }
@@ -183,7 +162,7 @@ impl Engine {
         ensures taken { IfErr result (λ e. IsTrue (finmap.contains_key self.old.clauses id) → e ≡ StoreFault.IdTaken) }
         ensures memory { IfErr result (λ e. finmap.contains_key self.old.clauses id ≡ false → e ≡ StoreFault.Memory) }
     {
-        add_listed(&mut self.store, &mut self.ids, id, lits)
+        add_listed(&mut self.watches, &mut self.shorts, id, lits)
     }
 
     /// Adds a clause whose first literal follows at the present level, and puts this on the trail with the clause as its reason.
@@ -205,7 +184,7 @@ impl Engine {
     {
         match self.insert(id, lits) {
             Ok(slot) => {
-                self.put(lits[0], Some(slot));
+                self.put(lits[0], slot);
                 Ok(slot)
             }
             Err(fault) => Err(fault),
@@ -222,7 +201,7 @@ impl Engine {
         ensures err { IfErr result (λ e. (e ≡ StoreFault.NotActive) × (self.new ≡ self.old)) }
         ensures inactive { IfErr result (λ _. is_some (slot_of self.old.clauses id) ≡ false) }
     {
-        self.store.delete(id)
+        self.watches.delete(id)
     }
 
     /// Makes an active clause a weakened one, which takes no part in propagation. NotActive comes exactly where the id isn't
@@ -236,7 +215,7 @@ impl Engine {
         ensures inactive { IfErr result (λ e. is_some (slot_of self.old.clauses id) ≡ false → e ≡ StoreFault.NotActive) }
         ensures memory { IfErr result (λ e. IsTrue (is_some (slot_of self.old.clauses id)) → e ≡ StoreFault.Memory) }
     {
-        self.store.weaken(id)
+        self.watches.weaken(id)
     }
 
     /// Makes a weakened clause an active one, at a slot that no active clause had. NotWeakened comes exactly where the id
@@ -249,7 +228,13 @@ impl Engine {
         ensures held { IfErr result (λ e. is_weakened self.old.clauses id ≡ false → e ≡ StoreFault.NotWeakened) }
         ensures memory { IfErr result (λ e. IsTrue (is_weakened self.old.clauses id) → e ≡ StoreFault.Memory) }
     {
-        self.store.restore(id)
+        if let Err(fault) = self.watches.restore(id) {
+            return Err(fault);
+        }
+        let _ = self.watches.store();
+        self.head = 0;
+        self.short_head = 0;
+        Ok(())
     }
 
     /// Whether the clause is a literal's reason.
@@ -257,8 +242,8 @@ impl Engine {
         ensures yes { IsTrue result → IsSomeReason self.now id }
         ensures no { result ≡ false → IsNoReason self.now id }
     {
-        match self.store.find(id) {
-            Some(slot) => names(&self.steps, slot),
+        match self.watches.find(id) {
+            Some(slot) => is_reason_among(&self.trail, self.watches.lits(slot), slot),
             None => false,
         }
     }
@@ -267,39 +252,39 @@ impl Engine {
     pub fn level(&self) -> u32
         ensures { result ≡ level_after self.now.trail }
     {
-        assumed(&self.steps) as u32
+        self.trail.level()
     }
 
     /// The level at which the literal or its negation came on the trail; None exactly where it is free.
     pub fn level_of(&self, l: Lit) -> Option<u32>
         ensures { result ≡ level_behind 0 self.now.trail l }
     {
-        if self.steps.len() > MAX_VAR as usize {
-            return None;
-        }
-        level_among(&self.steps, l)
+        self.trail.level_of(l)
     }
 
     /// The reason of a literal; None exactly where it isn't on the trail or was assumed.
     pub fn reason(&self, l: Lit) -> Option<Slot>
         ensures { result ≡ reason_in self.now.trail l }
     {
-        reason_among(&self.steps, l)
+        self.trail.reason(l)
     }
 
     /// The clauses.
     pub fn store(&self) -> &Store
         ensures { clauses_of result.now ≡ self.now.clauses }
     {
-        &self.store
+        self.watches.store()
     }
 
     /// Empties the trail.
     pub fn clear(&mut self)
         ensures { self.new ≡ with_trail self.old [] }
     {
-        self.steps.clear();
+        compact(&self.watches, &mut self.shorts, &mut self.limit);
         self.trail.clear();
+        self.head = 0;
+        self.short_head = 0;
+        self.levels.clear();
     }
 
     /// The true literals, oldest first.
@@ -307,14 +292,14 @@ impl Engine {
         ensures literals { result.now ≡ literals self.now.trail }
         ensures sound { IsEngine self.now }
     {
-        &self.trail
+        self.trail.lits()
     }
 
     /// The greatest reserved variable, 0 where there is none.
     pub fn vars(&self) -> u32
         ensures { result ≡ self.now.vars }
     {
-        self.vars
+        self.trail.vars()
     }
 
     /// The value of a literal; None exactly where its variable is free.
@@ -322,22 +307,15 @@ impl Engine {
         ensures value { result ≡ value_in (literals self.now.trail) l }
         ensures sound { IsEngine self.now }
     {
-        if has(&self.trail, l) {
-            Some(true)
-        } else if has(&self.trail, l.neg()) {
-            Some(false)
-        } else {
-            None
-        }
+        self.trail.value(l)
     }
 
-    /// Puts a literal at the trail's end.
-    fn put(&mut self, l: Lit, reason: Option<Slot>)
-        requires { IsStep self.old.clauses self.old.vars self.old.trail (record { lit = l; reason = reason }) }
-        ensures { self.new ≡ with_step self.old l reason }
+    /// Puts a literal that follows at the trail's end.
+    fn put(&mut self, l: Lit, reason: Slot)
+        requires { IsStep self.old.clauses self.old.vars self.old.trail (record { lit = l; reason = Some reason }) }
+        ensures { self.new ≡ with_step self.old l (Some reason) }
     {
-        let _ = self.steps.push(Step { lit: l, reason });
-        let _ = self.trail.push(l);
+        self.trail.put(l, Some(reason));
     }
 
     /// Begins a level with this literal.
@@ -346,7 +324,11 @@ impl Engine {
         requires free { IsFree (literals self.old.trail) l }
         ensures { self.new ≡ with_step self.old l None }
     {
-        self.put(l, None);
+        let _ = self.levels.push(Heads {
+            trail: self.head,
+            shorts: self.short_head,
+        });
+        self.trail.put(l, None);
     }
 
     /// Extends the trail by all that follows, or until a clause is false. Some is the slot of an active clause all of whose
@@ -357,13 +339,17 @@ impl Engine {
         ensures rest { IfNone result (IsPropagated self.new) }
         ensures sound { IsEngine self.new }
     {
-        loop {
-            match next_of(&self.store, &self.ids, &self.trail) {
-                Next::False(slot) => return Some(slot),
-                Next::Unit(l, slot) => self.put(l, Some(slot)),
-                Next::Nothing => return None,
-            }
+        if let Some(slot) = look_at(
+            &mut self.watches,
+            &mut self.trail,
+            &self.shorts,
+            &mut self.short_head,
+        ) {
+            return Some(slot);
         }
+        let found = advance(&mut self.watches, &mut self.trail, &mut self.head);
+        let _ = self.watches.store();
+        found
     }
 
     /// Takes off the literals of higher levels; the level isn't above the present one.
@@ -371,108 +357,57 @@ impl Engine {
         requires { level ≤ level_after self.old.trail }
         ensures { self.new ≡ with_trail self.old (up_to_level level self.old.trail) }
     {
-        let kept = kept_steps(&self.steps, level);
-        self.steps.truncate(kept);
-        self.trail.truncate(kept);
+        let kept = level as usize;
+        if kept < self.levels.len() {
+            let heads = self.levels[kept];
+            self.head = heads.trail;
+            self.short_head = heads.shorts;
+            self.levels.truncate(kept);
+            self.trail.back_to(level);
+        }
     }
 }
 
-/// Adds a clause to the store and its id to the ids that are looked at.
+/// Takes out the ids that needn't be looked at where the trail is empty, if they have become many.
+fn compact(watches: &Watches, ids: &mut Vec<u64>, limit: &mut usize)
+    ensures kept { AreShorts (clauses_of watches.now.clauses) ids.old.items → AreShorts (clauses_of watches.now.clauses) ids.new.items }
+    ensures sound { IsWatched watches.now }
+{
+    let _ = watches.store();
+    if ids.len() > *limit {
+        keep_short(watches, ids);
+        *limit = ids.len().saturating_mul(2);
+    }
+}
+
+/// Adds a clause and its id to the ids that are looked at.
 fn add_listed(
-    store: &mut Store,
+    watches: &mut Watches,
     ids: &mut Vec<u64>,
     id: u64,
     lits: &[Lit],
 ) -> Result<Slot, StoreFault>
-    requires { (x : ℕ) → IsTrue (is_held store.old x) → Contains ids.old.items x }
-    ensures listed { (x : ℕ) → IsTrue (is_held store.new x) → Contains ids.new.items x }
-    ensures fresh { IfOk result (λ s. IsFresh store.old s) }
-    ensures ok { IfOk result (λ s. store.new ≡ finmap.insert store.old id (new_clause lits.now s)) }
-    ensures free { IfOk result (λ _. is_held store.old id ≡ false) }
-    ensures err { IfErr result (λ _. store.new ≡ store.old) }
-    ensures taken { IfErr result (λ e. IsTrue (is_held store.old id) → e ≡ StoreFault.IdTaken) }
-    ensures memory { IfErr result (λ e. is_held store.old id ≡ false → e ≡ StoreFault.Memory) }
+    requires { AreReserved watches.old lits.now }
+    ensures wide { length watches.new.chains ≡ length watches.old.chains }
+    ensures listed { IfOk result (λ _. ids.new.items ≡ ids.old.items ++ id ∷ []) }
+    ensures fresh { IfOk result (λ s. IsFresh watches.old.clauses s) }
+    ensures ok { IfOk result (λ s. watches.new.clauses ≡ finmap.insert watches.old.clauses id (new_clause lits.now s)) }
+    ensures free { IfOk result (λ _. is_held watches.old.clauses id ≡ false) }
+    ensures err { IfErr result (λ _. (watches.new.clauses ≡ watches.old.clauses) × (ids.new.items ≡ ids.old.items)) }
+    ensures taken { IfErr result (λ e. IsTrue (is_held watches.old.clauses id) → e ≡ StoreFault.IdTaken) }
+    ensures memory { IfErr result (λ e. is_held watches.old.clauses id ≡ false → e ≡ StoreFault.Memory) }
 {
-    match store.add(id, lits) {
+    match watches.add(id, lits) {
         Ok(slot) => {
             if ids.push(id).is_ok() {
                 Ok(slot)
             } else {
-                let _ = store.delete(id);
+                let _ = watches.delete(id);
                 Err(StoreFault::Memory)
             }
         }
         Err(fault) => Err(fault),
     }
-}
-
-/// How many steps were assumed.
-fn assumed(steps: &[Step]) -> usize
-    ensures { result ≡ level_after steps.now }
-{
-    steps.iter().filter(|s| s.reason.is_none()).count()
-}
-
-/// The reason of this literal, if it has one.
-fn reason_among(steps: &[Step], l: Lit) -> Option<Slot>
-    ensures { result ≡ reason_in steps.now l }
-{
-    for s in steps {
-        if s.lit == l {
-            return s.reason;
-        }
-    }
-    None
-}
-
-/// The level of this literal's variable, if it has one.
-#[tactic(auto, unfolding(crate::specs::Engine::level_behind))]
-fn level_among(steps: &[Step], l: Lit) -> Option<u32>
-    requires { length steps.now ≤ max_var }
-    ensures { result ≡ level_behind 0 steps.now l }
-{
-    let mut level: u32 = 0;
-    for (i, s) in steps.iter().enumerate() {
-        if s.reason.is_none() {
-            level += 1;
-        }
-        if s.lit.var() == l.var() {
-            return Some(level);
-        }
-    }
-    None
-}
-
-/// Whether a step has this reason.
-fn names(steps: &[Step], slot: Slot) -> bool
-    ensures yes { IsTrue result → (s : Step) × Contains steps.now s × (s.reason ≡ Some slot) }
-    ensures no { result ≡ false → (s : Step) → Contains steps.now s → s.reason ≡ Some slot → ⊥ }
-{
-    for s in steps {
-        if let Some(reason) = s.reason {
-            if reason == slot {
-                return true;
-            }
-        }
-    }
-    false
-}
-
-/// How many steps are of this level or a lower one.
-#[tactic(auto, unfolding(crate::specs::Engine::up_to_level))]
-fn kept_steps(steps: &[Step], level: u32) -> usize
-    ensures { take result steps.now ≡ up_to_level level steps.now }
-{
-    let mut left = level;
-    for (i, s) in steps.iter().enumerate() {
-        if s.reason.is_none() {
-            if left == 0 {
-                return i;
-            }
-            left -= 1;
-        }
-    }
-    steps.len()
 }
 
 /// Where nothing follows there is no closing sequence.
@@ -486,3 +421,6 @@ pub fn law_of_trails()
     ensures once_reasons { (e : EngineView) (ids : List ℕ) → IsEngine e → ReasonsAre e.clauses e.trail ids → IsOnce ids }
     ensures lower { (n : ℕ) (ss : List Step) → level_after (up_to_level n ss) ≤ n }
 {}
+
+#[cfg(test)]
+mod tests;

@@ -1,5 +1,11 @@
 -- A state that stands for events: what one more event makes of it, and that its rules are the events' faults.
-use Rattle.std.proofs.Common.{◌≡◌, ℕ, ◌≤◌, max, All, arith, List, [], ◌∷◌, ◌++◌, Option, Some, None, filter_map, refl, sym, ◌∙◌, ap}
+use Rattle.std.proofs.Common.{◌≡◌, ℕ, ◌≤◌, max, All, arith, Bool, true, false, not, cond, ◌||◌, nat_eq, List, [], ◌∷◌, ◌++◌, Option, Some, None, filter_map, refl, sym, ◌∙◌, ap, subst, eqb-true}
+use Rattle.std.specs.Prelude.{slice_get, IfNone}
+use Rattle.std.specs.Cmp.{nat_eq_equiv}
+use Rattle.std.proofs.lemmas.List.Folds.{Any-from_list_any}
+use Rattle.std.proofs.lemmas.Map.Views.{All-from_any}
+use Rattle.session_rules.specs.declared.Rule.{Rule}
+use Rattle.session_rules.specs.Logic.{has}
 use Rattle.std.specs.List.{last_or}
 use Rattle.std.specs.Option.{unwrap_or}
 use Rattle.std.proofs.lemmas.List.{append-nil}
@@ -106,3 +112,32 @@ core_rules-stands s es u h = ap (λ z. broken_at rules.CoreStranger (first_missi
 -- literals of variables up to the one that was reserved
 pub reserved_below : (s : State) (vars : ℕ) (ls : List ℕ) → All (λ l. var l ≤ vars) ls → AreReserved (with_reserved s vars) ls
 reserved_below s vars ls h = All-weaker (λ l. var l ≤ vars) (λ l. var l ≤ max s.reserved vars) (λ l le. omega (arith, le)) ls h
+
+-- ---- Cores
+
+-- a literal of a list that lacks nothing of the other is in that
+missing_none : (us ls : List ℕ) (q : ℕ) → first_missing us ls ≡ None → has us q ≡ true → has ls q ≡ true
+missing_none [] ls q e h = cc h
+missing_none (u ∷ us) ls q e h = by_first (has ls u) refl (missing_none us ls q)
+  where
+    at_first : (b : Bool) → nat_eq q u ≡ b → has ls u ≡ true → (has us q ≡ true → has ls q ≡ true) → has ls q ≡ true
+    at_first true same w more = ap (has ls) (eqb-true q u same) ∙ w
+    at_first false other w more = more (ap (λ z. z || has us q) (sym other) ∙ h)
+
+    by_first : (b : Bool) → has ls u ≡ b → (first_missing us ls ≡ None → has us q ≡ true → has ls q ≡ true) → has ls q ≡ true
+    by_first true w more = at_first (nat_eq q u) refl w (more (ap (λ z. cond (not z) (Some u) (first_missing us ls)) (sym w) ∙ e))
+    by_first false w more = let f : Some u ≡ None = ap (λ z. cond (not z) (Some u) (first_missing us ls)) (sym w) ∙ e in cc f
+
+within : (ls : List ℕ) (n q : ℕ) → All (λ l. var l ≤ n) ls → has ls q ≡ true → var q ≤ n
+within ls n q all h = let (i, x, low, at, same) = Any-from_list_any (nat_eq q) ls h in
+    subst (λ z. var z ≤ n) (at ∙ sym (eqb-true q x same)) (all i x low)
+
+-- where no literal of a core is a stranger, its variables are those of the assumptions
+pub core_reserved : (us ls : List ℕ) (n : ℕ) (r : Option Rule) → All (λ l. var l ≤ n) ls → r ≡ slice_get (broken_at rules.CoreStranger (first_missing us ls)) 0
+    → IfNone r (All (λ l. var l ≤ n) us)
+core_reserved us ls n None all e = by_missing (first_missing us ls) refl e
+  where
+    by_missing : (o : Option ℕ) → first_missing us ls ≡ o → None ≡ slice_get (broken_at rules.CoreStranger o) 0 → All (λ l. var l ≤ n) us
+    by_missing None w f = All-from_any nat_eq_equiv (λ l. var l ≤ n) us (λ q h. within ls n q all (missing_none us ls q w h))
+    by_missing (Some l) w f = cc f
+core_reserved us ls n (Some r) all e = tt

@@ -6,7 +6,7 @@
 //! behind another in one list of literals.
 #![tactic(auto)]
 
-ghost use Rattle.std.specs.Prelude.{◌≡◌, ◌≤◌, ◌∷◌, ◌++◌, ℕ, [], List, slice_get, OnOk, OnErr};
+ghost use Rattle.std.specs.Prelude.{◌≡◌, ◌≤◌, ◌∷◌, ◌++◌, ℕ, [], List, slice_get, OnOk, OnErr, IfNone};
 ghost use Rattle.lits.specs.Literal.{max_var};
 ghost use Rattle.session_rules.specs.History.{phase_told};
 ghost use Rattle.session_events.specs.State.{StandsFor, AreReserved, start, with_reserved, behind, kind_of, fits, order_rules, model_rules, core_rules};
@@ -131,6 +131,15 @@ impl Events {
         &self.assumed
     }
 
+    /// The greatest reserved variable, 0 where none is. No literal of the last query is beyond it.
+    pub fn reserved(&self) -> u32
+        ensures value { result ≡ self.now.reserved }
+        ensures assumed { AreReserved self.now self.now.assumed }
+        ensures limit { result ≤ max_var }
+    {
+        self.reserved
+    }
+
     /// The rule Order where an event of this kind doesn't fit the phase, else `None`.
     pub fn order_rule(&self, kind: Kind) -> Option<Rule>
         ensures { result ≡ slice_get (order_rules self.now kind) 0 }
@@ -155,10 +164,10 @@ impl Events {
         rules::of_model(self.marks.as_mut_slice(), assumed, inputs, m)
     }
 
-    /// CoreStranger with the first literal of a core that isn't one of the last query, or `None` where there is none. It
-    /// takes no memory.
+    /// CoreStranger with the first literal of a core that isn't one of the last query, or `None` where there is none, and
+    /// then the core's variables are reserved. It takes no memory.
     pub fn core_rule(&mut self, u: &[Lit]) -> Option<Rule>
-        requires { AreReserved self.old u.now }
+        ensures reserved { IfNone result (AreReserved self.new u.now) }
         ensures rule { result ≡ slice_get (core_rules self.old u.now) 0 }
         ensures unchanged { self.new ≡ self.old }
     {

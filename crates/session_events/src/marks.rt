@@ -34,13 +34,20 @@ pub(crate) fn unmark(marks: &mut [bool], lits: &[Lit])
     }
 }
 
+/// Whether a literal is marked; one beyond the table isn't.
+fn is_marked(marks: &[bool], l: Lit) -> bool
+    ensures { result ≡ is_marked marks.now l }
+{
+    let place = l.code() as usize;
+    place < marks.len() && marks[place]
+}
+
 /// The first literal that isn't marked.
 pub(crate) fn first_unmarked(marks: &[bool], lits: &[Lit]) -> Option<Lit>
-    requires { All (HasPlace (length marks.now)) lits.now }
     ensures { result ≡ find (λ l. not (is_marked marks.now l)) lits.now }
 {
     for l in lits {
-        if !marks[l.code() as usize] {
+        if !is_marked(marks, *l) {
             return Some(*l);
         }
     }

@@ -21,7 +21,6 @@ pub(crate) fn of_model(
 ) -> Option<Rule>
     requires clean { Marks marks.old [] }
     requires model { All (HasPlace (length marks.old)) m.now }
-    requires assumptions { All (HasPlace (length marks.old)) assumed.now }
     requires clauses { All (λ c. All (HasPlace (length marks.old)) c) inputs.now }
     ensures rule { result ≡ slice_get (model_rules_of assumed.now inputs.now m.now) 0 }
     ensures clean { Marks marks.new [] }
@@ -37,8 +36,7 @@ pub(crate) fn of_model(
 
 /// The first rule that the marked literals, which have no opposites, break as a model.
 fn unmet(marks: &[bool], assumed: &[Lit], inputs: &ClauseList) -> Option<Rule>
-    requires assumptions { All (HasPlace (length marks.now)) assumed.now }
-    requires clauses { All (λ c. All (HasPlace (length marks.now)) c) inputs.now }
+    requires { All (λ c. All (HasPlace (length marks.now)) c) inputs.now }
     ensures { result ≡ slice_get (broken_at Rule.ModelAssumption (find (λ l. not (is_marked marks.now l)) assumed.now)
         ++ broken_at Rule.ModelInput (position_from (λ c. not (list_any (is_marked marks.now) c)) 1 inputs.now)) 0 }
 {
@@ -54,7 +52,6 @@ fn unmet(marks: &[bool], assumed: &[Lit], inputs: &ClauseList) -> Option<Rule>
 /// The first rule that a core breaks.
 pub(crate) fn of_core(marks: &mut [bool], assumed: &[Lit], u: &[Lit]) -> Option<Rule>
     requires clean { Marks marks.old [] }
-    requires core { All (HasPlace (length marks.old)) u.now }
     requires assumptions { All (HasPlace (length marks.old)) assumed.now }
     ensures rule { result ≡ slice_get (broken_at Rule.CoreStranger (first_missing u.now assumed.now)) 0 }
     ensures clean { Marks marks.new [] }

@@ -1,77 +1,106 @@
-use crate::{read_line, write_line};
+ghost use Rattle.std.specs.Prelude.{◌<◌};
+
+use crate::{read_header, read_line, write_line};
 use outside::{MemorySink, MemorySource};
 use session_rules::{LineFault, Rule};
 use slice_tokens::Window;
 use std::alloc::{AllocError, Global};
 use std::test::Fail;
 
-// Reads the lines of a text and writes them again, up to the first fault.
+// Reads the lines of a text that comes in pieces of so many bytes, and writes them again, up to the first fault. Answers
+// that fault, and the number of the line where the reading ended; line 0 is a header that wasn't read.
 fn read_again(
     alloc: Global,
     text: &[u8],
+    most: usize,
     sink: &mut MemorySink,
-) -> Result<Option<LineFault>, AllocError> {
+) -> Result<(Option<LineFault>, u64), AllocError>
+    requires { 0 < most }
+{
     let mut pieces = Vec::new(alloc);
-    pieces.push(text.to_vec(alloc)?)?;
+    for piece in text.chunks(most) {
+        pieces.push(piece.to_vec(alloc)?)?;
+    }
     let mut source = MemorySource::new(pieces, Vec::new(alloc));
     let mut window = Window::new(alloc)?;
+    if read_header(&mut window, &mut source, b"icnf").is_err() {
+        return Ok((None, 0));
+    }
     let mut room = 1_000;
     for _ in 0..20 {
         match read_line(alloc, &mut window, &mut source) {
             Ok(Some(line)) => {
                 let _ = write_line(sink, &mut room, &line);
             }
-            Ok(None) => return Ok(None),
-            Err(fault) => return Ok(Some(fault)),
+            Ok(None) => return Ok((None, window.line())),
+            Err(fault) => return Ok((Some(fault), window.line())),
         }
     }
-    Ok(None)
+    Ok((None, 0))
 }
 
 #[test]
 fn lines_are_read_as_they_are_written(rt: HostRuntime) -> Result<(), Fail> {
     let alloc = rt.alloc();
-    let texts = [
-        "i 1 -2 0\nc a comment\n\n i\t0\r\nq -2 -2 0\ns SATISFIABLE\nm -1 2 0\ns UNSATISFIABLE\nu -2 0\ns UNKNOWN",
-        "i 1 0\nl 1 0\n",
-        "i 1\n",
-        "i 1 0 0\n",
-        "q 01 0\n",
-        "i -0 0\n",
-        "i 16777216 0\n",
-        "s SAT\n",
-        "s\n",
-        "i 123456789012345678901234567890123 0\n",
-    ];
-    let wanted = [
-        "i 1 -2 0\ni 0\nq -2 -2 0\ns SATISFIABLE\nm -1 2 0\ns UNSATISFIABLE\nu -2 0\ns UNKNOWN\n",
-        "i 1 0\n",
-        "",
-        "",
-        "",
-        "",
-        "",
-        "",
-        "",
-        "",
-    ];
-    let faults = [
-        None,
-        Some(LineFault::Syntax(Rule::Letter)),
-        Some(LineFault::Syntax(Rule::Unclosed)),
-        Some(LineFault::Syntax(Rule::Excess)),
-        Some(LineFault::Syntax(Rule::Number)),
-        Some(LineFault::Syntax(Rule::Number)),
-        Some(LineFault::Syntax(Rule::Range)),
-        Some(LineFault::Syntax(Rule::Word)),
-        Some(LineFault::Syntax(Rule::Word)),
-        Some(LineFault::Syntax(Rule::Number)),
-    ];
-    for i in 0..10usize {
+    let text =
+        "p icnf\ni 1 -2 0\nc a comment\n\n i\t0\r\nq -2 16777215 -2 0\ns SATISFIABLE\nm -1 2 0\ns UNSATISFIABLE\nu -2 0\ns UNKNOWN";
+    let wanted =
+        "i 1 -2 0\ni 0\nq -2 16777215 -2 0\ns SATISFIABLE\nm -1 2 0\ns UNSATISFIABLE\nu -2 0\ns UNKNOWN\n";
+    for most in [1, 1_000] {
         let mut sink = MemorySink::new(alloc, 7, Vec::new(alloc));
-        let fault = read_again(alloc, texts[i].as_bytes(), &mut sink)?;
-        assert_eq!(rt; fault, faults[i], "text {i}");
-        assert_eq!(rt; sink.bytes(), wanted[i].as_bytes(), "text {i}");
+        let answer = read_again(alloc, text.as_bytes(), most, &mut sink)?;
+        assert_eq!(rt; answer, (None, 11), "{most}");
+        assert_eq!(rt; sink.bytes(), wanted.as_bytes(), "{most}");
+    }
+    Ok(())
+}
+
+#[test]
+fn broken_lines_are_refused_in_single_bytes(rt: HostRuntime) -> Result<(), Fail> {
+    let alloc = rt.alloc();
+    let rows = [
+        ("l 1 0", Rule::Letter),
+        ("d 1 0", Rule::Letter),
+        ("w 1 0", Rule::Letter),
+        ("r 1 0", Rule::Letter),
+        ("x 1 0", Rule::Letter),
+        ("qq 1 0", Rule::Letter),
+        ("I 1 0", Rule::Letter),
+        ("p icnf", Rule::Letter),
+        ("iiiiiiiiiiiiiiiiiiiiiiiiiiiiiiiii 1 0", Rule::Letter),
+        ("i", Rule::Unclosed),
+        ("i 1", Rule::Unclosed),
+        ("m -1 2", Rule::Unclosed),
+        ("u", Rule::Unclosed),
+        ("i 1 0 0", Rule::Excess),
+        ("s SATISFIABLE 0", Rule::Excess),
+        ("m 0 111111111111111111111111111111111", Rule::Excess),
+        ("s UNKNOWN 111111111111111111111111111111111", Rule::Excess),
+        ("q 01 0", Rule::Number),
+        ("i -0 0", Rule::Number),
+        ("i 00", Rule::Number),
+        ("u +1 0", Rule::Number),
+        ("m - 0", Rule::Number),
+        ("i 1 2- 0", Rule::Number),
+        ("i 111111111111111111111111111111111 0", Rule::Number),
+        ("i 01 16777216 0", Rule::Number),
+        ("i 16777216 0", Rule::Range),
+        ("q 1 -16777216 0", Rule::Range),
+        ("i 16777216 01 0", Rule::Range),
+        ("s SAT", Rule::Word),
+        ("s", Rule::Word),
+        ("s satisfiable", Rule::Word),
+        ("s SATISFIABL", Rule::Word),
+        ("s UNKNOWNS", Rule::Word),
+        ("s SATISFIABLESATISFIABLESATISFIABLE", Rule::Word),
+    ];
+    for (line, rule) in rows {
+        let mut text = b"c\n\np icnf\nq 1 0\n".to_vec(alloc)?;
+        text.extend_from_slice(line.as_bytes())?;
+        let mut sink = MemorySink::new(alloc, 7, Vec::new(alloc));
+        let answer = read_again(alloc, text.as_slice(), 1, &mut sink)?;
+        assert_eq!(rt; answer, (Some(LineFault::Syntax(rule)), 5), "{line}");
+        assert_eq!(rt; sink.bytes(), b"q 1 0\n".as_slice(), "{line}");
     }
     Ok(())
 }

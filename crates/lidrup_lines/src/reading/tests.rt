@@ -1,62 +1,104 @@
+ghost use Rattle.std.specs.Prelude.{◌<◌};
+
 use crate::{read_line, write_line};
+use icnf_lines::read_header;
 use outside::{MemorySink, MemorySource};
 use session_rules::{LineFault, Rule};
 use slice_tokens::Window;
 use std::alloc::{AllocError, Global};
 use std::test::Fail;
 
-// Reads the lines of a text and writes them again, up to the first fault.
+// Reads the lines of a text that comes in pieces of so many bytes, and writes them again, up to the first fault. Answers
+// that fault, and the number of the line where the reading ended; line 0 is a header that wasn't read.
 fn read_again(
     alloc: Global,
     text: &[u8],
+    most: usize,
     sink: &mut MemorySink,
-) -> Result<Option<LineFault>, AllocError> {
+) -> Result<(Option<LineFault>, u64), AllocError>
+    requires { 0 < most }
+{
     let mut pieces = Vec::new(alloc);
-    pieces.push(text.to_vec(alloc)?)?;
+    for piece in text.chunks(most) {
+        pieces.push(piece.to_vec(alloc)?)?;
+    }
     let mut source = MemorySource::new(pieces, Vec::new(alloc));
     let mut window = Window::new(alloc)?;
+    if read_header(&mut window, &mut source, b"lidrup").is_err() {
+        return Ok((None, 0));
+    }
     let mut room = 1_000;
     for _ in 0..20 {
         match read_line(alloc, &mut window, &mut source) {
             Ok(Some(line)) => {
                 let _ = write_line(sink, &mut room, &line);
             }
-            Ok(None) => return Ok(None),
-            Err(fault) => return Ok(Some(fault)),
+            Ok(None) => return Ok((None, window.line())),
+            Err(fault) => return Ok((Some(fault), window.line())),
         }
     }
-    Ok(None)
+    Ok((None, 0))
 }
 
 #[test]
 fn lines_are_read_as_they_are_written(rt: HostRuntime) -> Result<(), Fail> {
     let alloc = rt.alloc();
-    let texts = [
-        "i 1 1 -2 0\nq -1 0\nl 9223372036854775807 -2 0 2 1 0\nw 1 2 0\nr 2 0\nd 0\ns UNKNOWN\nm 1 0\nu -1 0 3 0",
-        "l 4 0 0\nl 0 1 0 0\n",
-        "l 5 1 0\n",
-        "d 9223372036854775808 0\n",
-        "i 1 1 0 1 0\n",
-    ];
-    let wanted = [
-        "i 1 1 -2 0\nq -1 0\nl 9223372036854775807 -2 0 2 1 0\nw 1 2 0\nr 2 0\nd 0\ns UNKNOWN\nm 1 0\nu -1 0 3 0\n",
-        "l 4 0 0\n",
-        "",
-        "",
-        "",
-    ];
-    let faults = [
-        None,
-        Some(LineFault::Syntax(Rule::Range)),
-        Some(LineFault::Syntax(Rule::Unclosed)),
-        Some(LineFault::Syntax(Rule::Range)),
-        Some(LineFault::Syntax(Rule::Excess)),
-    ];
-    for i in 0..5usize {
+    let text =
+        "p lidrup\ni 1 1 -2 0\nq -1 0\nl 9223372036854775807 -2 0 2 1 0\nw 1 2 0\nr 2 0\nd 0\ns UNKNOWN\nm 1 0\nl 4 0 0\nu -1 0 3 0";
+    let wanted =
+        "i 1 1 -2 0\nq -1 0\nl 9223372036854775807 -2 0 2 1 0\nw 1 2 0\nr 2 0\nd 0\ns UNKNOWN\nm 1 0\nl 4 0 0\nu -1 0 3 0\n";
+    for most in [1, 1_000] {
         let mut sink = MemorySink::new(alloc, 7, Vec::new(alloc));
-        let fault = read_again(alloc, texts[i].as_bytes(), &mut sink)?;
-        assert_eq!(rt; fault, faults[i], "text {i}");
-        assert_eq!(rt; sink.bytes(), wanted[i].as_bytes(), "text {i}");
+        let answer = read_again(alloc, text.as_bytes(), most, &mut sink)?;
+        assert_eq!(rt; answer, (None, 11), "{most}");
+        assert_eq!(rt; sink.bytes(), wanted.as_bytes(), "{most}");
+    }
+    Ok(())
+}
+
+#[test]
+fn broken_lines_are_refused_in_single_bytes(rt: HostRuntime) -> Result<(), Fail> {
+    let alloc = rt.alloc();
+    let rows = [
+        ("x 1 0", Rule::Letter),
+        ("ddddddddddddddddddddddddddddddddd 1 0", Rule::Letter),
+        ("i", Rule::Unclosed),
+        ("i 1", Rule::Unclosed),
+        ("l 5 1 0", Rule::Unclosed),
+        ("l 1 2 0 3", Rule::Unclosed),
+        ("u 1 0", Rule::Unclosed),
+        ("r 1", Rule::Unclosed),
+        ("i 1 1 0 1 0", Rule::Excess),
+        ("l 1 0 0 0", Rule::Excess),
+        ("u 1 0 0 1", Rule::Excess),
+        ("w 1 0 2", Rule::Excess),
+        ("d 0 111111111111111111111111111111111", Rule::Excess),
+        ("i -1 1 0", Rule::Number),
+        ("l 01 1 0 0", Rule::Number),
+        ("l 1 2 0 -3 0", Rule::Number),
+        ("d -1 0", Rule::Number),
+        ("w 00 0", Rule::Number),
+        ("i 111111111111111111111111111111111 0", Rule::Number),
+        ("r 111111111111111111111111111111111 0", Rule::Number),
+        ("u 01 0 0", Rule::Number),
+        ("i 0 1 0", Rule::Range),
+        ("l 0 1 0 0", Rule::Range),
+        ("i 9223372036854775808 1 0", Rule::Range),
+        ("l 9223372036854775808 0 0", Rule::Range),
+        ("d 9223372036854775808 0", Rule::Range),
+        ("l 1 16777216 0 0", Rule::Range),
+        ("u 0 9223372036854775808 0", Rule::Range),
+        ("s MAYBE", Rule::Word),
+        ("s", Rule::Word),
+        ("s SATISFIABLESATISFIABLESATISFIABLE", Rule::Word),
+    ];
+    for (line, rule) in rows {
+        let mut text = b"c\n\np lidrup\nq 1 0\n".to_vec(alloc)?;
+        text.extend_from_slice(line.as_bytes())?;
+        let mut sink = MemorySink::new(alloc, 7, Vec::new(alloc));
+        let answer = read_again(alloc, text.as_slice(), 1, &mut sink)?;
+        assert_eq!(rt; answer, (Some(LineFault::Syntax(rule)), 5), "{line}");
+        assert_eq!(rt; sink.bytes(), b"q 1 0\n".as_slice(), "{line}");
     }
     Ok(())
 }

@@ -1,26 +1,21 @@
-use Rattle.std.proofs.Common.{◌≡◌, ℕ, ◌<◌, ◌≤◌, ◌++◌, ◌∷◌, [], List, length, true, false, Some, Contains, sym, subst, ap, ◌∙◌, arith, refl, not}
+use Rattle.std.proofs.Common.{◌≡◌, false, sym, ap, ◌∙◌, refl, length}
 use Rattle.std.specs.Prelude.{is_ok}
-use Rattle.clause_store.specs.Clauses.{Store, is_held, new_clause}
-use Rattle.std.proofs.lemmas.Bool.{both_ways}
-use Rattle.propagation.proofs.Changes.{listed-insert, taken_back}
+use Rattle.clause_store.specs.Clauses.{new_clause}
+use Rattle.watch_chains.proofs.Seen.{length-entered}
+use Rattle.propagation.proofs.Changes.{taken_back}
+use Rattle.propagation.proofs.Insides.{clauses_deleted, wide_deleted}
 use Rattle.propagation.proofs.add_listed.Goals as goal
 
-pub returns-then-is_ok-clause-listed : goal.returns-then-is_ok-clause-listed
-returns-then-is_ok-clause-listed c = λ x a.
-    let okay : is_ok c.push.result ≡ true = sym c.is_ok.ensures.value ∙ c.if-is_ok.true in
-    let pushed : c.push.new.self.items ≡ c.args.ids.now.items ++ c.args.id ∷ [] = rw okay at c.push.ensures.items in
-    subst (λ z. Contains z x) (sym pushed) (listed-insert c.args.store.now c.args.ids.now.items c.args.id (new_clause c.args.lits.now c.in-Ok.slot) c.requires x (subst (λ z. is_held z x ≡ true) c.in-Ok.ensures.ok a))
+pub returns-else-is_ok-clause-wide : goal.returns-else-is_ok-clause-wide
+returns-else-is_ok-clause-wide c =
+    wide_deleted c.add.new.self c.delete.new.self c.args.id c.delete.result c.delete.ensures.ok c.delete.ensures.active c.delete.ensures.err
+    ∙ ap (λ z. length z.chains) c.in-Ok.ensures.ok ∙ length-entered c.args.watches.now.chains _ c.in-Ok.slot
 
 pub returns-else-is_ok-clause-err : goal.returns-else-is_ok-clause-err
 returns-else-is_ok-clause-err c =
-    taken_back c.args.store.now c.add.new.self c.delete.new.self c.args.id (new_clause c.args.lits.now c.in-Ok.slot) c.in-Ok.slot c.delete.result c.in-Ok.ensures.free c.in-Ok.ensures.ok refl c.delete.ensures.ok c.delete.ensures.inactive
-
-pub returns-else-is_ok-clause-listed : goal.returns-else-is_ok-clause-listed
-returns-else-is_ok-clause-listed c = λ x a.
     let okay : is_ok c.push.result ≡ false = sym c.is_ok.ensures.value ∙ c.if-is_ok.false in
-    let kept : c.push.new.self.items ≡ c.args.ids.now.items = rw okay at c.push.ensures.items in
-    let back = taken_back c.args.store.now c.add.new.self c.delete.new.self c.args.id (new_clause c.args.lits.now c.in-Ok.slot) c.in-Ok.slot c.delete.result c.in-Ok.ensures.free c.in-Ok.ensures.ok refl c.delete.ensures.ok c.delete.ensures.inactive in
-    subst (λ z. Contains z x) (sym kept) (c.requires x (subst (λ z. is_held z x ≡ true) back a))
-
-pub returns-else-is_ok-clause-taken : goal.returns-else-is_ok-clause-taken
-returns-else-is_ok-clause-taken c = λ h. absurd (both_ways _ c.in-Ok.ensures.free h)
+    let kept : c.push.new.self.items ≡ c.args.ids.now.items = rw okay at c.push.ensures.items in (
+      taken_back c.args.watches.now.clauses c.add.new.self.clauses c.delete.new.self.clauses c.args.id (new_clause c.args.lits.now c.in-Ok.slot) c.in-Ok.slot c.delete.result c.in-Ok.ensures.free (ap (λ z. z.clauses) c.in-Ok.ensures.ok) refl
+          (clauses_deleted c.add.new.self c.delete.new.self c.args.id c.delete.result c.delete.ensures.ok c.delete.ensures.active) c.delete.ensures.inactive,
+      kept,
+    )

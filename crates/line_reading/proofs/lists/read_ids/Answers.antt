@@ -1,4 +1,4 @@
-use Rattle.std.proofs.Common.{List, [], refl, sym, ◌∙◌, arith}
+use Rattle.std.proofs.Common.{[], refl, sym, ◌∙◌, arith}
 use Rattle.session_rules.specs.Reading.{id_list}
 use Rattle.slice_tokens.specs.Place.{ahead}
 use Rattle.line_reading.specs.Kinds.{id_says}

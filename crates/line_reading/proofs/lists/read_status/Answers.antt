@@ -1,4 +1,3 @@
-use Rattle.slice_tokens.specs.Place.{ahead}
 use Rattle.line_reading.proofs.Collecting.{status_read}
 use Rattle.line_reading.proofs.lists.read_status.Goals as goal
 

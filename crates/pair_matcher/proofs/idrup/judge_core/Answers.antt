@@ -1,6 +1,8 @@
-use Rattle.std.proofs.Common.{◌≡◌, ap, ◌∙◌, sym, subst, refl, true, false, arith}
+use Rattle.std.proofs.Common.{ap, ◌∙◌, sym, subst, refl, true, false}
 use Rattle.session_events.specs.State.{StandsFor}
-use Rattle.pair_matcher.proofs.JudgingSets.{core_order, core_stranger, core_open, core_done, tested, tested_clauses, tested_vars}
+use Rattle.pair_matcher.proofs.JudgingSets.{core_order, core_stranger, core_open, core_done, tested}
+use Rattle.pair_matcher.proofs.Engines.{grown_clauses}
+use Rattle.pair_matcher.proofs.Insides.{between-grown}
 use Rattle.pair_matcher.proofs.idrup.judge_core.Goals as goal
 
 pub returns-in-Some-clause-judged : goal.returns-in-Some-clause-judged
@@ -12,16 +14,17 @@ returns-in-Some-core_rule-clause-judged c = core_stranger _ _ _ _ _ _ _ c.order_
 
 pub returns-then-not-closes-clause-judged : goal.returns-then-not-closes-clause-judged
 returns-then-not-closes-clause-judged c = core_open _ _ _ _ _ _ _ c.order_rule.result c.order_rule.ensures c.in_default.is c.core_rule.result c.core_rule.ensures.rule c.in_default-core_rule.is
-    (tested c.args.p.now.engine c.clear.new.self c.clear.ensures c.args.u.now c.args.u.now c.closes.result false c.closes.ensures.sound c.closes.ensures.complete c.if-not-closes.true refl)
+    (tested c.args.p.now.engine c.args.u.now c.args.u.now c.closes.result false c.closes.ensures.sound c.closes.ensures.complete c.if-not-closes.true refl)
 
 pub returns-clause-judged : goal.returns-clause-judged
 returns-clause-judged c = core_done _ _ c.args.p.now.next c.args.p.now.next _ _ _ c.order_rule.result c.order_rule.ensures c.in_default.is c.core_rule.result c.core_rule.ensures.rule c.in_default-core_rule.is
-    (tested c.args.p.now.engine c.clear.new.self c.clear.ensures c.args.u.now c.args.u.now c.closes.result true c.closes.ensures.sound c.closes.ensures.complete c.if-not-closes.false refl)
-    (tested_clauses c.args.p.now.engine c.clear.new.self c.clear.ensures c.closes.new.engine c.closes.ensures.frame)
+    (tested c.args.p.now.engine c.args.u.now c.args.u.now c.closes.result true c.closes.ensures.sound c.closes.ensures.complete c.if-not-closes.false refl)
+    (grown_clauses c.args.p.now.engine c.closes.new.engine c.closes.ensures.frame)
     (λ es h. c.take_core.ensures.stands es c.args.u.now (subst (λ z. StandsFor z es) (sym c.core_rule.ensures.unchanged) h))
 
+pub returns-then-not-closes-clause-inside : goal.returns-then-not-closes-clause-inside
+returns-then-not-closes-clause-inside c = between-grown _ _ c.requires c.closes.new.engine _ c.closes.ensures.frame (ap (λ z. z.reserved) c.core_rule.ensures.unchanged)
+
 pub returns-clause-inside : goal.returns-clause-inside
-returns-clause-inside c =
-    let vars : c.closes.new.engine.vars ≡ c.args.p.now.engine.vars = tested_vars c.args.p.now.engine c.clear.new.self c.clear.ensures c.closes.new.engine c.closes.ensures.frame in
-    let reserved : c.take_core.new.self.reserved ≡ c.args.p.now.events.reserved = ap (λ z. z.reserved) (c.take_core.ensures.state c.args.u.now) ∙ ap (λ z. z.reserved) c.core_rule.ensures.unchanged in
-    omega (arith, c.requires.inside)
+returns-clause-inside c = between-grown _ _ c.requires c.closes.new.engine _ c.closes.ensures.frame
+    (ap (λ z. z.reserved) (c.take_core.ensures.state c.args.u.now) ∙ ap (λ z. z.reserved) c.core_rule.ensures.unchanged)

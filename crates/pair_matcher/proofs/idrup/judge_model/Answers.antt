@@ -1,7 +1,8 @@
-use Rattle.std.proofs.Common.{ap, ◌∙◌, sym, subst, ◌≤◌}
+use Rattle.std.proofs.Common.{ap, ◌∙◌, sym, subst}
 use Rattle.session_events.specs.State.{StandsFor}
 use Rattle.pair_matcher.specs.Inside.{clauses_of_engine}
 use Rattle.pair_matcher.proofs.JudgingSets.{model_order, model_broken, model_done}
+use Rattle.pair_matcher.proofs.Insides.{between-events}
 use Rattle.pair_matcher.proofs.idrup.judge_model.Goals as goal
 
 pub returns-in-Some-clause-judged : goal.returns-in-Some-clause-judged
@@ -17,5 +18,4 @@ returns-clause-judged c = model_done (clauses_of_engine c.args.p.now.engine) (cl
     (λ es h. c.take_model.ensures.stands es c.args.m.now (subst (λ z. StandsFor z es) (sym c.model_rule.ensures.unchanged) h))
 
 pub returns-clause-inside : goal.returns-clause-inside
-returns-clause-inside c = subst (λ z. z ≤ c.args.p.now.engine.vars)
-    (sym (ap (λ z. z.reserved) (c.take_model.ensures.state c.args.m.now) ∙ ap (λ z. z.reserved) c.model_rule.ensures.unchanged)) c.requires.inside
+returns-clause-inside c = between-events _ _ c.requires.inside _ (ap (λ z. z.reserved) (c.take_model.ensures.state c.args.m.now) ∙ ap (λ z. z.reserved) c.model_rule.ensures.unchanged)

@@ -1,17 +1,10 @@
-use Rattle.std.proofs.Common.{◌≡◌, ap, ◌∙◌, subst, None}
-use Rattle.std.proofs.lemmas.Bool.{both_ways}
-use Rattle.session_rules.specs.declared.Step.TheVariants as steps
-use Rattle.pair_matcher.specs.Sides.{Judged}
-use Rattle.pair_matcher.specs.Inside.{clauses_of_engine}
 use Rattle.pair_matcher.proofs.JudgingSets.{restoring_none, restoring_done}
-use Rattle.pair_matcher.proofs.Engines.{found_active, has_slot}
 use Rattle.pair_matcher.proofs.idrup.judge_restoring.Goals as goal
 
 pub returns-in_default-clause-judged : goal.returns-in_default-clause-judged
-returns-in_default-clause-judged c = restoring_none c.store.result.now c.args.p.now.engine c.args.p.now.engine (c.store.ensures ∙ ap (λ z. z.clauses) c.clear.ensures) _ _ _
+returns-in_default-clause-judged c = restoring_none c.store.result.now c.args.p.now.engine c.args.p.now.engine c.store.ensures _ _ _
     c.in_ok-set.set c.in_ok-set.ensures.set _ c.in_default.ensures.none
 
 pub returns-in-Ok-clause-judged : goal.returns-in-Ok-clause-judged
-returns-in-Ok-clause-judged c = subst (λ z. Judged z c.args.p.now.next c.args.p.now.events (clauses_of_engine c.restore.new.self) c.args.p.now.next c.args.p.now.events (steps.Restore c.args.lits.now) None)
-    (ap clauses_of_engine c.clear.ensures) (restoring_done c.store.result.now c.clear.new.self c.restore.new.self c.store.ensures _ _ _ c.in_ok-set.set c.in_ok-set.ensures.set
-    c.in-Some.id c.in-Some.ensures.found c.in-Ok.ensures.ok)
+returns-in-Ok-clause-judged c = restoring_done c.store.result.now c.args.p.now.engine c.restore.new.self c.store.ensures _ _ _ c.in_ok-set.set c.in_ok-set.ensures.set
+    c.in-Some.id c.in-Some.ensures.found c.in-Ok.ensures.ok

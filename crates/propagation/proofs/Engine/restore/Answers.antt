@@ -1,19 +1,22 @@
-use Rattle.std.proofs.Common.{true, false}
-use Rattle.propagation.proofs.Changes.{inside_restored, value_restored, weakened_seen, fault_seen, ok_seen}
+use Rattle.std.proofs.Common.{true, false, sym, subst, ap, ◌∙◌}
+use Rattle.propagation.specs.Engine.{IsRestored}
+use Rattle.propagation.specs.Watching.{engine_of}
+use Rattle.propagation.proofs.Changes.{value_back, weakened_seen}
+use Rattle.propagation.proofs.Insides.{inside_restored}
 use Rattle.propagation.proofs.Engine.restore.Goals as goal
 
-pub invariant_of-self : goal.invariant_of-self
-invariant_of-self c = inside_restored c.self.inside.store c.restore.new.self c.self.inside.ids.items c.self.inside.steps.items c.self.inside.trail.items c.self.inside.vars _ _ c.args.id c.restore.result
-    c.self.invariant c.restore.ensures.ok c.restore.ensures.weakened c.restore.ensures.err
+pub returns-in-Err-clause-held : goal.returns-in-Err-clause-held
+returns-in-Err-clause-held c = let o = c.self.inside in λ h. c.in-Err.ensures.held (sym (weakened_seen o.watches.clauses c.args.self.now o.trail.steps o.trail.vars c.args.id c.self.view_is) ∙ h)
+
+pub returns-in-Err-clause-memory : goal.returns-in-Err-clause-memory
+returns-in-Err-clause-memory c = let o = c.self.inside in λ h. c.in-Err.ensures.memory (sym (weakened_seen o.watches.clauses c.args.self.now o.trail.steps o.trail.vars c.args.id c.self.view_is) ∙ h)
+
+pub invariant_of-self-2 : goal.invariant_of-self-2
+invariant_of-self-2 c = let o = c.self.inside in
+    inside_restored o.watches c.restore.new.self o.trail o.head o.shorts.items o.short_head o.levels.items _ c.args.self.now c.args.id c.self.invariant c.self.view_is c.requires.level c.store.ensures.sound c.in_default.ensures.ok c.in_default.ensures.weakened
 
 pub returns-clause-ok : goal.returns-clause-ok
-returns-clause-ok c = value_restored c.self.inside.store c.restore.new.self c.args.self.now c.args.id c.self.inside.steps.items c.self.inside.vars c.restore.result c.self.view_is c.restore.ensures.ok
+returns-clause-ok c = let o = c.self.inside in value_back o.watches.clauses c.restore.new.self.clauses c.args.self.now c.args.id o.trail.steps o.trail.vars c.self.view_is c.in_default.ensures.ok.clauses
 
 pub returns-clause-weakened : goal.returns-clause-weakened
-returns-clause-weakened c = ok_seen c.restore.result _ _ true (weakened_seen c.self.inside.store c.args.self.now c.self.inside.steps.items c.self.inside.vars c.args.id c.self.view_is) c.restore.ensures.weakened
-
-pub returns-clause-held : goal.returns-clause-held
-returns-clause-held c = fault_seen c.restore.result _ _ false _ (weakened_seen c.self.inside.store c.args.self.now c.self.inside.steps.items c.self.inside.vars c.args.id c.self.view_is) c.restore.ensures.held
-
-pub returns-clause-memory : goal.returns-clause-memory
-returns-clause-memory c = fault_seen c.restore.result _ _ true _ (weakened_seen c.self.inside.store c.args.self.now c.self.inside.steps.items c.self.inside.vars c.args.id c.self.view_is) c.restore.ensures.memory
+returns-clause-weakened c = let o = c.self.inside in weakened_seen o.watches.clauses c.args.self.now o.trail.steps o.trail.vars c.args.id c.self.view_is ∙ c.in_default.ensures.weakened

@@ -1,0 +1,137 @@
+-- A header by its words, and by the line that came next.
+use Rattle.std.proofs.Common.{◌≡◌, ℕ, ◌≤◌, Bool, true, false, ◌&&◌, nat_lt, if◌then◌else◌, List, [], ◌∷◌, length, Ok, Err, codes, refl, ap, ◌∙◌, subst, inl, inr, arith, ltb-true}
+use mathlib.Core.Path.{fun_ext}
+use Rattle.std.proofs.lemmas.Bool.{cases_Bool}
+use Rattle.std.specs.declared.option.Option.{Option}
+use Rattle.std.specs.declared.result.Result.{Result}
+use Rattle.session_rules.specs.declared.Rule.{Rule}
+use Rattle.session_rules.specs.declared.Rule.TheVariants as rules
+use Rattle.session_rules.specs.declared.LineFault.{LineFault}
+use Rattle.session_rules.specs.Reading.{Fault, wrong, missing, ◌>>=◌, Part, same_word, header_line}
+use Rattle.slice_tokens.specs.Place.{Place, WhereTold}
+use Rattle.slice_tokens.specs.declared.token.TokenFault.{TokenFault}
+use Rattle.slice_tokens.specs.declared.token.TokenFault.TheVariants as tokens
+use Rattle.slice_tokens.specs.Calls.{AtBound, Reaches}
+use Rattle.line_reading.specs.Parts.{ReadsPart, word_or_fault}
+use Rattle.line_reading.specs.Whole.{ReadsRest}
+use Rattle.line_reading.specs.Expected.{expected_word, expected_end}
+use Rattle.line_reading.proofs.LongWords.{other_length}
+use Rattle.line_reading.proofs.Collecting.{told_then}
+use Rattle.line_reading.proofs.ByLetter.{told_map}
+use Rattle.line_reading.proofs.Resting.{with_more, rest_then, rest_fault}
+use Rattle.line_reading.proofs.AtBounds.{next_cut}
+use Rattle.icnf_lines.specs.declared.header.HeaderFault.TheVariants as headers
+use Rattle.icnf_lines.specs.Headers.{HeaderAnswers, stream_fault_of}
+
+-- a word that was held against the given one
+abbrev tested : Rule → Bool → List (List ℕ) → Part (Unit {0})
+tested rule same ws = if same then Ok (tt, ws) else Err (wrong rule)
+
+-- a given word of at most 32 bytes, as the first of some words
+expected_first : (word : List ℕ) → length word ≤ 32 → (rule : Rule) (w : List ℕ) (ws : List (List ℕ)) → expected_word word rule (w ∷ ws) ≡ tested rule (same_word w word) ws
+expected_first word short rule w ws = elim (cases_Bool (nat_lt 32 (length w))) [
+  | inl q ↦ rw (q, other_length w word (ltb-true _ _ q) short) refl
+  | inr q ↦ rw q (by_test (same_word w word))
+]
+  where
+    by_test : (b : Bool) → word_or_fault {A = Unit {0}} (if b then Ok tt else Err rule) ws ≡ tested rule b ws
+    by_test true = refl
+    by_test false = refl
+
+-- the name and the line's end, behind the first word
+abbrev behind_first : List ℕ → Unit {0} → List (List ℕ) → Result (Unit {0}) Fault
+behind_first name u ws = with_more (expected_word name rules.Header) (λ v. expected_end rules.Header) ws
+
+-- the words of a header, one after the other
+abbrev by_words : List ℕ → List (List ℕ) → Result (Unit {0}) Fault
+by_words name ws = with_more (expected_word (codes "p") rules.Header) (behind_first name) ws
+
+-- what stands behind a part that was the first word, and behind one that was the name
+abbrev after_first : List ℕ → Part (Unit {0}) → Result (Unit {0}) Fault
+after_first name o = o >>= λ m. behind_first name m.0 m.1
+
+abbrev after_name : Part (Unit {0}) → Result (Unit {0}) Fault
+after_name o = o >>= λ m. expected_end rules.Header m.1
+
+begun : (name w : List ℕ) (ws : List (List ℕ)) → by_words name (w ∷ ws) ≡ after_first name (tested rules.Header (same_word w (codes "p")) ws)
+begun name w ws = ap (after_first name) (expected_first (codes "p") (omega arith) rules.Header w ws)
+
+named : (name : List ℕ) → length name ≤ 32 → (x : List ℕ) (ws : List (List ℕ)) → behind_first name tt (x ∷ ws) ≡ after_name (tested rules.Header (same_word x name) ws)
+named name short x ws = ap after_name (expected_first name short rules.Header x ws)
+
+header_is : (name : List ℕ) → length name ≤ 32 → (ws : List (List ℕ)) → by_words name ws ≡ header_line name ws
+unfolding header_line
+header_is name short [] = refl
+header_is name short (w ∷ []) = begun name w [] ∙ by_first (same_word w (codes "p"))
+  where
+    by_first : (b : Bool) → after_first name (tested rules.Header b []) ≡ Err (if b then missing rules.Header else wrong rules.Header)
+    by_first true = refl
+    by_first false = refl
+header_is name short (w ∷ x ∷ []) = begun name w (x ∷ []) ∙ by_first (same_word w (codes "p"))
+  where
+    by_second : (b : Bool) → after_name (tested rules.Header b []) ≡ (if b then Ok tt else Err (wrong rules.Header))
+    by_second true = refl
+    by_second false = refl
+
+    by_first : (b : Bool) → after_first name (tested rules.Header b (x ∷ [])) ≡ (if b && same_word x name then Ok tt else Err (wrong rules.Header))
+    by_first true = named name short x [] ∙ by_second (same_word x name)
+    by_first false = refl
+header_is name short (w ∷ x ∷ y ∷ ws) = begun name w (x ∷ y ∷ ws) ∙ by_first (same_word w (codes "p"))
+  where
+    by_second : (b : Bool) → after_name (tested rules.Header b (y ∷ ws)) ≡ Err (wrong rules.Header)
+    by_second true = refl
+    by_second false = refl
+
+    by_first : (b : Bool) → after_first name (tested rules.Header b (x ∷ y ∷ ws)) ≡ Err (wrong rules.Header)
+    by_first true = named name short x (y ∷ ws) ∙ by_second (same_word x name)
+    by_first false = refl
+
+-- ---- The words to the line's end
+
+as_header : (name : List ℕ) → length name ≤ 32 → (r : Result (Unit {0}) LineFault) (p q : Place) (t u : List ℕ) → ReadsRest (by_words name) r p t q u → ReadsRest (header_line name) r p t q u
+as_header name short r p q t u h = subst (λ f. ReadsRest f r p t q u) (fun_ext (header_is name short)) h
+
+-- the rest behind the first word
+behind : (name : List ℕ) → length name ≤ 32 → (x : Unit {0}) (r : Result (Unit {0}) LineFault) (a b c : Option (List ℕ)) (p q s : Place)
+    → WhereTold a b (λ t u. ReadsPart (expected_word (codes "p") rules.Header) (Ok x) p t q u) → WhereTold b c (λ t u. ReadsRest (behind_first name x) r q t s u)
+    → WhereTold a c (λ t u. ReadsRest (header_line name) r p t s u)
+behind name short x r a b c p q s h k = told_then a b c _ _ _ h k (λ t u v i j.
+    as_header name short r p s t v (rest_then (expected_word (codes "p") rules.Header) (behind_first name) x r p q s t u v i j))
+
+pub header_ended : (name : List ℕ) → length name ≤ 32 → (x y : Unit {0}) (r : Result (Unit {0}) LineFault) (a b c d : Option (List ℕ)) (p q s z : Place)
+    → WhereTold a b (λ t u. ReadsPart (expected_word (codes "p") rules.Header) (Ok x) p t q u) → WhereTold b c (λ t u. ReadsPart (expected_word name rules.Header) (Ok y) q t s u)
+    → WhereTold c d (λ t u. ReadsRest (expected_end rules.Header) r s t z u) → WhereTold a d (λ t u. ReadsRest (header_line name) r p t z u)
+header_ended name short x y r a b c d p q s z h k l = behind name short x r a b d p q z h (told_then b c d _ _ _ k l (λ t u v i j.
+    rest_then (expected_word name rules.Header) (λ w. expected_end rules.Header) y r q s z t u v i j))
+
+pub header_unnamed : (name : List ℕ) → length name ≤ 32 → (x : Unit {0}) (e : LineFault) (a b c : Option (List ℕ)) (p q s : Place)
+    → WhereTold a b (λ t u. ReadsPart (expected_word (codes "p") rules.Header) (Ok x) p t q u) → WhereTold b c (λ t u. ReadsPart (expected_word name rules.Header) (Err e) q t s u)
+    → WhereTold a c (λ t u. ReadsRest (header_line name) (Err e) p t s u)
+header_unnamed name short x e a b c p q s h k = behind name short x (Err e) a b c p q s h (told_map b c _ _ k (λ t u i.
+    rest_fault (expected_word name rules.Header) (λ w. expected_end rules.Header) e q s t u i))
+
+pub header_unbegun : (name : List ℕ) → length name ≤ 32 → (e : LineFault) (a b : Option (List ℕ)) (p q : Place)
+    → WhereTold a b (λ t u. ReadsPart (expected_word (codes "p") rules.Header) (Err e) p t q u) → WhereTold a b (λ t u. ReadsRest (header_line name) (Err e) p t q u)
+header_unbegun name short e a b p q h = told_map a b _ _ h (λ t u i. as_header name short (Err e) p q t u (rest_fault (expected_word (codes "p") rules.Header) (behind_first name) e p q t u i))
+
+-- ---- The line that came next
+
+no_words : (name : List ℕ) → header_line name [] ≡ Err (missing rules.Header)
+unfolding header_line
+no_words name = refl
+
+at_bound : (name : List ℕ) (o q : Place) (t u : List ℕ) → AtBound o t q u → HeaderAnswers name o t q u (Err (headers.Syntax rules.Length))
+at_bound name o q t u h = elim (next_cut (header_line name) rules.Header (no_words name) o q t u h) [
+  | inl b ↦ inl b
+  | inr b ↦ inr (inl b)
+]
+
+not_reached : (name : List ℕ) (e : TokenFault) (o q : Place) (t u : List ℕ) → Reaches o t q u (Err e) → HeaderAnswers name o t q u (Err (stream_fault_of e))
+not_reached name tokens.Read o q t u h = tt
+not_reached name tokens.LongWord o q t u h = absurd h
+not_reached name tokens.Length o q t u h = at_bound name o q t u h
+
+-- the window answered a fault in place of the next line
+pub header_unreached : (name : List ℕ) (e : TokenFault) (a b : Option (List ℕ)) (o q : Place) → WhereTold a b (λ t u. Reaches o t q u (Err e))
+    → WhereTold a b (λ t u. HeaderAnswers name o t q u (Err (stream_fault_of e)))
+header_unreached name e a b o q h = told_map a b _ _ h (λ t u k. not_reached name e o q t u k)

@@ -1,0 +1,110 @@
+-- What the rest of a line of the interaction answers, held against the proof's event.
+use Rattle.std.specs.Prelude.{◌≡◌, ℕ, not, List, [], Option, Some, None, Ok, Err, option_map, find, slice_get}
+use Rattle.std.specs.Option.{option_or}
+use Rattle.std.specs.declared.result.Result.{Result}
+use Rattle.session_rules.specs.declared.Event.{Event}
+use Rattle.session_rules.specs.declared.Event.TheVariants as events
+use Rattle.session_rules.specs.declared.Letter.{Letter}
+use Rattle.session_rules.specs.declared.Letter.TheVariants as letters
+use Rattle.session_rules.specs.declared.Rule.{Rule}
+use Rattle.session_rules.specs.declared.Rule.TheVariants as rules
+use Rattle.session_rules.specs.declared.LineFault.{LineFault}
+use Rattle.session_rules.specs.declared.LineFault.TheVariants as faults
+use Rattle.session_rules.specs.History.{first_missing}
+use Rattle.session_rules.specs.Pair.{pair_faults}
+use Rattle.session_rules.specs.Reading.{event_at}
+use Rattle.slice_tokens.specs.Place.{Place, ahead, WhereTold}
+use Rattle.line_reading.specs.Whole.{ReadsRest, literals_rest}
+use Rattle.icnf_lines.specs.declared.marks.Mark.{Mark}
+use Rattle.icnf_lines.specs.declared.meeting.Found.{Found}
+use Rattle.icnf_lines.specs.declared.meeting.Met.{Met}
+use Rattle.icnf_lines.specs.declared.matching.Match.{Match}
+use Rattle.icnf_lines.specs.declared.matching.Match.TheVariants.{Agrees, Differs}
+use Rattle.icnf_lines.specs.declared.matching.MatchFault.{MatchFault}
+use Rattle.icnf_lines.specs.declared.matching.MatchFault.TheVariants.{Syntax, Read}
+use Rattle.icnf_lines.specs.Marks.{blank, mark_at, also_met, Changes}
+
+-- ---- Literals against marks
+
+-- literals without a mark still have none
+pub record KeepsBlank (old new : List Mark) : Type 0 where
+  pub each : (l : ℕ) → mark_at old l ≡ blank → mark_at new l ≡ blank
+
+-- the line has these literals; they were marked as met, and the first of them that isn't held was found, and that isn't assumed
+pub record LiteralsFound (start now : List Mark) (f : Found) (old : Place) (before : Option (List ℕ)) (new : Place) (after : Option (List ℕ)) : Type 0 where
+  pub literals : List ℕ
+  pub marks : Changes also_met start now literals
+  pub stranger : f.stranger ≡ find (λ l. not (mark_at start l).held) literals
+  pub claim : f.claim ≡ find (λ l. not (mark_at start l).assumed) literals
+  pub told : WhereTold (ahead old before) (ahead new after) (λ t u. ReadsRest literals_rest (Ok literals) old t new u)
+
+abbrev pub FindsLiterals : List Mark → List Mark → Result Found LineFault → Place → Option (List ℕ) → Place → Option (List ℕ) → Type 0
+FindsLiterals start now (Ok f) old before new after = LiteralsFound start now f old before new after
+FindsLiterals start now (Err e) old before new after = WhereTold (ahead old before) (ahead new after) (λ t u. ReadsRest literals_rest (Err e) old t new u)
+
+-- ---- Literals against literals
+
+-- the line has these literals; the first of them that isn't one of an event's, the first of the event's that isn't one of
+-- them, and the first of them that isn't assumed
+pub record LiteralsMet (c qs : List ℕ) (m : Met) (old : Place) (before : Option (List ℕ)) (new : Place) (after : Option (List ℕ)) : Type 0 where
+  pub literals : List ℕ
+  pub stranger : m.stranger ≡ first_missing literals c
+  pub unmet : m.unmet ≡ first_missing c literals
+  pub claim : m.claim ≡ first_missing literals qs
+  pub told : WhereTold (ahead old before) (ahead new after) (λ t u. ReadsRest literals_rest (Ok literals) old t new u)
+
+abbrev pub MeetsLiterals : List ℕ → List ℕ → Result Met LineFault → Place → Option (List ℕ) → Place → Option (List ℕ) → Type 0
+MeetsLiterals c qs (Ok m) old before new after = LiteralsMet c qs m old before new after
+MeetsLiterals c qs (Err e) old before new after = WhereTold (ahead old before) (ahead new after) (λ t u. ReadsRest literals_rest (Err e) old t new u)
+
+-- ---- The rule that is broken
+
+-- the literals that count as assumed in a line with this letter
+abbrev pub assumed_in : Letter → List ℕ → List ℕ
+assumed_in letters.Core qs = qs
+assumed_in _ qs = []
+
+-- the sets differ where one has a literal that the other lacks
+abbrev pub content_rule : Option ℕ → Option ℕ → Option Rule
+content_rule None None = None
+content_rule _ _ = Some rules.Content
+
+-- the rule that a line with this letter breaks
+abbrev pub rule_of : Letter → Event → Met → Option Rule
+rule_of letters.Input (events.Input c) m = content_rule m.stranger m.unmet
+rule_of letters.Query (events.Query c) m = content_rule m.stranger m.unmet
+rule_of letters.Model (events.Model c) m = option_map rules.ModelPart m.stranger
+rule_of letters.Core (events.Core c) m = option_or (option_map rules.CorePart m.unmet) (option_map rules.CoreClaim m.claim)
+rule_of _ _ m = Some rules.Kind
+
+-- a line with literals behind its letter
+abbrev pub HasLiterals : Letter → Type 0
+HasLiterals letters.Input = Unit {0}
+HasLiterals letters.Query = Unit {0}
+HasLiterals letters.Model = Unit {0}
+HasLiterals letters.Core = Unit {0}
+HasLiterals _ = ⊥
+
+-- ---- Rests
+
+-- behind the letter stands what makes it an event that breaks this rule first
+pub record RestMeets (letter : Letter) (e : Event) (qs : List ℕ) (answer : Option Rule) (old : Place) (before : Option (List ℕ)) (new : Place) (after : Option (List ℕ)) : Type 0 where
+  pub partner : Event
+  pub rule : slice_get (pair_faults qs e partner) 0 ≡ answer
+  pub told : WhereTold (ahead old before) (ahead new after) (λ t u. ReadsRest (event_at letter) (Ok partner) old t new u)
+
+abbrev pub RestAnswers : Letter → Event → List ℕ → Result (Option Rule) LineFault → Place → Option (List ℕ) → Place → Option (List ℕ) → Type 0
+RestAnswers letter e qs (Ok answer) old before new after = RestMeets letter e qs answer old before new after
+RestAnswers letter e qs (Err fault) old before new after = WhereTold (ahead old before) (ahead new after) (λ t u. ReadsRest (event_at letter) (Err fault) old t new u)
+
+-- a fault of a line, which isn't want of memory
+abbrev pub match_fault : LineFault → MatchFault
+match_fault (faults.Syntax r) = Syntax r
+match_fault faults.Read = Read
+match_fault faults.Memory = Read
+
+-- the answer about the line
+abbrev pub answer_of : Result (Option Rule) LineFault → Result Match MatchFault
+answer_of (Ok None) = Ok Agrees
+answer_of (Ok (Some rule)) = Ok (Differs rule)
+answer_of (Err fault) = Err (match_fault fault)

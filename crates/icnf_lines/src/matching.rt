@@ -1,0 +1,269 @@
+// How a line of the interaction is held against the proof's event: the event's literals are marked in a table, and the
+// line's are looked up there as they come, so that no list is stored.
+
+ghost use Rattle.std.specs.Prelude.{◌≡◌, ◌+◌, ◌≤◌, ℕ, List, length, slice_get, option_map, All, IsErrOf};
+ghost use Rattle.std.specs.Option.{option_or};
+ghost use Rattle.lits.specs.Literal.{var};
+ghost use Rattle.outside.specs.Faults.{Rose};
+ghost use Rattle.session_rules.specs.declared.LineFault.{LineFault};
+ghost use Rattle.session_rules.specs.declared.Event.{Event};
+ghost use Rattle.session_rules.specs.History.{event_literals};
+ghost use Rattle.session_rules.specs.Lines.{most_bytes};
+ghost use Rattle.session_rules.specs.Pair.{pair_faults, same_status};
+ghost use Rattle.slice_tokens.specs.Place.{ahead, WhereTold};
+ghost use Rattle.slice_tokens.specs.Calls.{Moves};
+ghost use Rattle.line_reading.specs.Parts.{Stays};
+ghost use Rattle.icnf_lines.specs.Marks.{HasPlace, IsBlank};
+ghost use Rattle.icnf_lines.specs.Matching.{Matches};
+ghost use Rattle.icnf_lines.specs.Partners as partners;
+
+#[cfg(test)]
+mod tests;
+
+use crate::marks::{Mark, Marks};
+use crate::meeting::{Met, meet};
+use line_reading::{enter_line, status_rest};
+use lits::Lit;
+use outside::Source;
+use session_rules::{Event, Letter, LineFault, Rule, StatusWord};
+use slice_tokens::Window;
+
+/// How a line of the interaction stands to the proof's event.
+#[derive(Clone, Copy, Debug, PartialEq, Eq)]
+pub enum Match {
+    /// It is the event's partner, and breaks no rule.
+    Agrees,
+    /// No line is left.
+    Ended,
+    /// It breaks this rule first.
+    Differs(Rule),
+}
+
+/// Why a line wasn't held against an event.
+#[derive(Clone, Copy, Debug, PartialEq, Eq)]
+pub enum MatchFault {
+    /// The line breaks this rule of syntax.
+    Syntax(Rule),
+    /// A read failed.
+    Read,
+}
+
+/// Goes to the next content line of the interaction and holds it against the proof's event, under the literals of the
+/// proof's last query. The line isn't stored, and no memory is taken: the literals are looked up in the table, which has
+/// to have room for the variables of the event and of the query.
+///
+/// `Ended` comes exactly at the end of the stream. `Differs` has the first of the rules Kind, Content, Status, ModelPart,
+/// CorePart and CoreClaim that the line breaks; what it breaks of syntax comes before them.
+///
+/// # Errors
+///
+/// `Syntax` comes exactly where the line breaks a rule of syntax, and is that of its first word at fault; the window then
+/// stands in that line. `Read` comes only where the source's count rose. The table has no mark after either.
+pub fn match_line<S: Source>(
+    window: &mut Window,
+    src: &mut S,
+    event: &Event,
+    assumed: &[Lit],
+    marks: &mut Marks,
+) -> Result<Match, MatchFault>
+    requires event { All (λ l. var l ≤ marks.old) (event_literals event.now) }
+    requires assumed { All (λ l. var l ≤ marks.old) assumed.now }
+    ensures moves { Moves window.old window.new }
+    ensures marks { marks.new ≡ marks.old }
+    ensures told { WhereTold (ahead window.old (S.left src.old)) (ahead window.new (S.left src.new))
+        (λ bytes rest. Matches event.now assumed.now window.old bytes window.new rest result) }
+    ensures count { S.faults src.old ≤ S.faults src.new }
+    ensures read { IsErrOf result MatchFault.Read → Rose (S.faults src.old) (S.faults src.new) }
+{
+    match enter_line(window, src) {
+        Ok(None) => Ok(Match::Ended),
+        Ok(Some(letter)) => {
+            let table = marks.table.as_mut_slice();
+            answer_of(partner_rule(window, src, letter, event, assumed, table))
+        }
+        Err(fault) => Err(match_fault(fault)),
+    }
+}
+
+/// The answer about the line: it breaks this rule, or none, or is at fault.
+fn answer_of(rule: Result<Option<Rule>, LineFault>) -> Result<Match, MatchFault>
+    ensures { result ≡ partners.answer_of rule }
+{
+    match rule {
+        Ok(None) => Ok(Match::Agrees),
+        Ok(Some(rule)) => Ok(Match::Differs(rule)),
+        Err(fault) => Err(match_fault(fault)),
+    }
+}
+
+/// The fault of a line, which isn't want of memory.
+fn match_fault(fault: LineFault) -> MatchFault
+    ensures { result ≡ partners.match_fault fault }
+{
+    match fault {
+        LineFault::Syntax(rule) => MatchFault::Syntax(rule),
+        LineFault::Read | LineFault::Memory => MatchFault::Read,
+    }
+}
+
+/// The first rule that a line with this letter breaks as the partner of the event. The table has no mark then.
+fn partner_rule<S: Source>(
+    window: &mut Window,
+    src: &mut S,
+    letter: Letter,
+    event: &Event,
+    assumed: &[Lit],
+    table: &mut [Mark],
+) -> Result<Option<Rule>, LineFault>
+    requires bounded { window.old.passed ≤ most_bytes }
+    requires counted { window.old.line ≤ window.old.passed + 1 }
+    requires event { All (HasPlace (length table.old)) (event_literals event.now) }
+    requires assumed { All (HasPlace (length table.old)) assumed.now }
+    requires blank { IsBlank table.old }
+    ensures stays { Stays window.old window.new }
+    ensures blank { IsBlank table.new }
+    ensures told { partners.RestAnswers letter event.now assumed.now result window.old (S.left src.old) window.new (S.left src.new) }
+    ensures count { S.faults src.old ≤ S.faults src.new }
+    ensures read { IsErrOf result LineFault.Read → Rose (S.faults src.old) (S.faults src.new) }
+    ensures memory { IsErrOf result LineFault.Memory → ⊥ }
+{
+    match letter {
+        Letter::Input | Letter::Query | Letter::Model | Letter::Core => literals_rule(
+            window, src, letter, event, assumed, table,
+        ),
+        Letter::Status => match status_rest(window, src) {
+            Ok(status) => Ok(status_rule(event, status)),
+            Err(fault) => Err(fault),
+        },
+        _ => Err(LineFault::Syntax(Rule::Letter)),
+    }
+}
+
+/// The rule that a status breaks as the partner of the event.
+#[tactic(auto, unfolding(session_rules::specs::Pair::pair_faults))]
+fn status_rule(event: &Event, status: StatusWord) -> Option<Rule>
+    ensures { (qs : List ℕ) → slice_get (pair_faults qs event.now (Event.Status status)) 0 ≡ result }
+{
+    match event {
+        Event::Status(told) => if same_status(*told, status) {
+            None
+        } else {
+            Some(Rule::Status)
+        },
+        _ => Some(Rule::Kind),
+    }
+}
+
+/// Whether two statuses are the same.
+fn same_status(status: StatusWord, other: StatusWord) -> bool
+    ensures { result ≡ same_status status other }
+{
+    match status {
+        StatusWord::Satisfiable => matches!(other, StatusWord::Satisfiable),
+        StatusWord::Unsatisfiable => matches!(other, StatusWord::Unsatisfiable),
+        StatusWord::Unknown => matches!(other, StatusWord::Unknown),
+    }
+}
+
+/// The first rule that a line breaks which has literals behind this letter.
+fn literals_rule<S: Source>(
+    window: &mut Window,
+    src: &mut S,
+    letter: Letter,
+    event: &Event,
+    assumed: &[Lit],
+    table: &mut [Mark],
+) -> Result<Option<Rule>, LineFault>
+    requires letter { partners.HasLiterals letter }
+    requires event { All (HasPlace (length table.old)) (event_literals event.now) }
+    requires assumed { All (HasPlace (length table.old)) assumed.now }
+    requires blank { IsBlank table.old }
+    ensures stays { Stays window.old window.new }
+    ensures blank { IsBlank table.new }
+    ensures told { partners.RestAnswers letter event.now assumed.now result window.old (S.left src.old) window.new (S.left src.new) }
+    ensures count { S.faults src.old ≤ S.faults src.new }
+    ensures read { IsErrOf result LineFault.Read → Rose (S.faults src.old) (S.faults src.new) }
+    ensures memory { IsErrOf result LineFault.Memory → ⊥ }
+{
+    match meet(
+        window,
+        src,
+        event.lits(),
+        assumed_in(letter, assumed),
+        table,
+    ) {
+        Ok(met) => Ok(rule_of(letter, event, met)),
+        Err(fault) => Err(fault),
+    }
+}
+
+/// The literals that count as assumed in a line with this letter.
+fn assumed_in(letter: Letter, assumed: &[Lit]) -> &[Lit]
+    ensures { result.now ≡ partners.assumed_in letter assumed.now }
+{
+    match letter {
+        Letter::Core => assumed,
+        _ => &[],
+    }
+}
+
+/// The rule that a line with this letter breaks.
+fn rule_of(letter: Letter, event: &Event, met: Met) -> Option<Rule>
+    ensures { result ≡ partners.rule_of letter event.now met }
+{
+    match letter {
+        Letter::Input => match event {
+            Event::Input(_) => content_rule(met.stranger, met.unmet),
+            _ => Some(Rule::Kind),
+        },
+        Letter::Query => match event {
+            Event::Query(_) => content_rule(met.stranger, met.unmet),
+            _ => Some(Rule::Kind),
+        },
+        Letter::Model => match event {
+            Event::Model(_) => model_rule(met.stranger),
+            _ => Some(Rule::Kind),
+        },
+        Letter::Core => match event {
+            Event::Core(_) => core_rule(met.unmet, met.claim),
+            _ => Some(Rule::Kind),
+        },
+        _ => Some(Rule::Kind),
+    }
+}
+
+/// Content, where one set has a literal that the other lacks.
+fn content_rule(stranger: Option<Lit>, unmet: Option<Lit>) -> Option<Rule>
+    ensures { result ≡ partners.content_rule stranger unmet }
+{
+    match stranger {
+        Some(_) => Some(Rule::Content),
+        None => match unmet {
+            Some(_) => Some(Rule::Content),
+            None => None,
+        },
+    }
+}
+
+/// ModelPart, where the line has a literal that the event lacks.
+fn model_rule(stranger: Option<Lit>) -> Option<Rule>
+    ensures { result ≡ option_map Rule.ModelPart stranger }
+{
+    match stranger {
+        Some(l) => Some(Rule::ModelPart(l)),
+        None => None,
+    }
+}
+
+/// CorePart, where the line lacks a literal of the event, or else CoreClaim, where it has one that isn't assumed.
+fn core_rule(unmet: Option<Lit>, claim: Option<Lit>) -> Option<Rule>
+    ensures { result ≡ option_or (option_map Rule.CorePart unmet) (option_map Rule.CoreClaim claim) }
+{
+    match unmet {
+        Some(l) => Some(Rule::CorePart(l)),
+        None => match claim {
+            Some(l) => Some(Rule::CoreClaim(l)),
+            None => None,
+        },
+    }
+}

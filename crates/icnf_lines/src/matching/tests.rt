@@ -1,0 +1,151 @@
+// What each pair of lines gives, each text in pieces of one byte.
+
+ghost use Rattle.std.specs.Prelude.{◌≡◌, ◌≤◌, IsTrue, All};
+ghost use Rattle.lits.specs.Literal.{var};
+
+use crate::{Marks, Match, MatchFault, match_line, read_line};
+use lits::Lit;
+use outside::MemorySource;
+use session_rules::{Event, Rule};
+use slice_tokens::Window;
+use std::alloc::{AllocError, Global};
+use std::process::Abort;
+use std::test::Fail;
+
+// A source that gives these bytes one by one.
+fn source(alloc: Global, bytes: &[u8]) -> Result<MemorySource, AllocError> {
+    let mut pieces = Vec::new(alloc);
+    for b in bytes {
+        pieces.push([*b].to_vec(alloc)?)?;
+    }
+    Ok(MemorySource::new(pieces, Vec::new(alloc)))
+}
+
+// Whether the variables of literals are at most this one.
+fn are_within(lits: &[Lit], vars: u32) -> bool
+    ensures { IsTrue result → All (λ l. var l ≤ vars) lits.now }
+{
+    lits.iter().all(|l| l.var() <= vars)
+}
+
+// Holds the next line against an event; none where their variables are above 9.
+fn held_against(
+    window: &mut Window,
+    lines: &mut MemorySource,
+    event: &Event,
+    assumed: &[Lit],
+    marks: &mut Marks,
+) -> Option<Result<Match, MatchFault>>
+    requires { marks.old ≡ 9 }
+    ensures { marks.new ≡ 9 }
+{
+    let lits = event.lits();
+    if !are_within(lits, 9) {
+        return None;
+    }
+    if !are_within(assumed, 9) {
+        return None;
+    }
+    Some(match_line(window, lines, event, assumed, marks))
+}
+
+// Holds the lines of an interaction against those of a proof in turn, with one table, and gives the last answer.
+fn matched(
+    alloc: Global,
+    proof: &str,
+    interaction: &str,
+    assumed: &[Lit],
+) -> Result<Option<Result<Match, MatchFault>>, AllocError> {
+    let mut events = source(alloc, proof.as_bytes())?;
+    let mut events_window = Window::new(alloc)?;
+    let mut lines = source(alloc, interaction.as_bytes())?;
+    let mut lines_window = Window::new(alloc)?;
+    let mut marks = Marks::new(alloc);
+    marks.reserve(9)?;
+    let mut answer = None;
+    for _ in 0..9 {
+        match read_line(alloc, &mut events_window, &mut events) {
+            Ok(Some(event)) => {
+                answer = held_against(&mut lines_window, &mut lines, &event, assumed, &mut marks);
+            }
+            _ => return Ok(answer),
+        }
+    }
+    Ok(answer)
+}
+
+// The literal of a number.
+fn lit(rt: &impl Abort, n: i64) -> Lit {
+    Lit::new(n).expect(rt, "a literal")
+}
+
+#[test]
+fn pairs_of_lines(rt: HostRuntime) -> Result<(), Fail> {
+    let alloc = rt.alloc();
+    let assumed = [lit(&rt, 1), lit(&rt, 3)];
+    let proofs = [
+        "i 1 0",
+        "i 2 1 0",
+        "i 2 0",
+        "q -1 0",
+        "q 1 2 0",
+        "s SATISFIABLE",
+        "s UNKNOWN",
+        "s UNKNOWN",
+        "m 1 2 0",
+        "m 1 2 0",
+        "u 1 3 0",
+        "u 2 1 3 0",
+        "u 1 0",
+        "u 2 0",
+        "i 1 0",
+        "i 1 0",
+        "i 1 0",
+        "i 1 0\ni 1 2 0",
+    ];
+    let interactions = [
+        "q 0",
+        "i 1 2 1 0\n",
+        "i 2 1 0",
+        "q 1 0",
+        "c nothing\n\nq 2 1 0\n",
+        "s UNSATISFIABLE",
+        "s UNKNOWN",
+        "m 0",
+        "m 1 1 -2 2 9 0",
+        "m 2 2 0",
+        "u 3 0",
+        "u 3 1 2 0",
+        "u 1 4 8 0",
+        "u 8 0",
+        "\nc 1 0\n",
+        "q 01 0",
+        "i 8000000 0 1",
+        "i 2 0\ni 2 1 0",
+    ];
+    let wanted = [
+        Ok(Match::Differs(Rule::Kind)),
+        Ok(Match::Agrees),
+        Ok(Match::Differs(Rule::Content)),
+        Ok(Match::Differs(Rule::Content)),
+        Ok(Match::Agrees),
+        Ok(Match::Differs(Rule::Status)),
+        Ok(Match::Agrees),
+        Ok(Match::Differs(Rule::Kind)),
+        Ok(Match::Differs(Rule::ModelPart(lit(&rt, -2)))),
+        Ok(Match::Agrees),
+        Ok(Match::Differs(Rule::CorePart(lit(&rt, 1)))),
+        Ok(Match::Differs(Rule::CoreClaim(lit(&rt, 2)))),
+        Ok(Match::Differs(Rule::CoreClaim(lit(&rt, 4)))),
+        Ok(Match::Differs(Rule::CorePart(lit(&rt, 2)))),
+        Ok(Match::Ended),
+        Err(MatchFault::Syntax(Rule::Number)),
+        Err(MatchFault::Syntax(Rule::Excess)),
+        Ok(Match::Agrees),
+    ];
+    for i in 0..18usize {
+        let answer = matched(alloc, proofs[i], interactions[i], &assumed)?;
+        assert_eq!(rt; answer, Some(wanted[i]), "pair {i}");
+    }
+    Ok(())
+}

@@ -1,0 +1,69 @@
+-- What a status says of the verdict.
+use Rattle.std.proofs.Common.{◌≡◌, ℕ, ◌≤◌, List, sym, ◌∙◌, arith, None, Some}
+use Rattle.std.specs.declared.option.Option.{Option}
+use Rattle.std.specs.Io.KnownBytes.{Appends}
+use Rattle.session_rules.specs.declared.Form.{Form}
+use Rattle.session_rules.specs.declared.Side.{Side}
+use Rattle.session_rules.specs.declared.Rule.{Rule}
+use Rattle.session_rules.specs.declared.Verdict.TheVariants.{Accepted, Refused}
+use Rattle.session_rules.specs.Pair.{verdict, Certified, events_in}
+use Rattle.session_laws.proofs.Accepted.{verdict_certifies}
+use Rattle.idrup_cli.specs.declared.plan.Places.{Places}
+use Rattle.idrup_cli.specs.declared.ending.Ending.{Ending}
+use Rattle.idrup_cli.specs.declared.ending.Ending.TheVariants.{Checked, Usage, ReadInteraction, ReadProof, NoMemory}
+use Rattle.idrup_cli.specs.Plan.{IfCheck}
+use Rattle.idrup_cli.specs.Report.{Cause, line_of, status_of}
+
+-- what holds of a check gives what it implies
+IfCheck-map : (P Q : Form → List ℕ → List ℕ → Type 0) → ((form : Form) (a b : List ℕ) → P form a b → Q form a b)
+    → (places : Option Places) (left right : Option (List ℕ)) → IfCheck places left right P → IfCheck places left right Q
+IfCheck-map P Q implies None left right holds = tt
+IfCheck-map P Q implies (Some places) None right holds = tt
+IfCheck-map P Q implies (Some places) (Some a) None holds = tt
+IfCheck-map P Q implies (Some places) (Some a) (Some b) holds = λ check. implies places.form a b (holds check)
+
+IfCheck-all : (P : Form → List ℕ → List ℕ → Type 0) → ((form : Form) (a b : List ℕ) → P form a b)
+    → (places : Option Places) (left right : Option (List ℕ)) → IfCheck places left right P
+IfCheck-all P all None left right = tt
+IfCheck-all P all (Some places) None right = tt
+IfCheck-all P all (Some places) (Some a) None = tt
+IfCheck-all P all (Some places) (Some a) (Some b) = λ check. all places.form a b
+
+module _ (status : ℕ) (old new : Option (List ℕ)) (places : Option Places) (left right : Option (List ℕ)) (first second : ℕ × ℕ) where
+  abbrev IsCertified : Form → List ℕ → List ℕ → Type 0
+  IsCertified form a b = status ≡ 0 → Certified (events_in a)
+
+  abbrev IsRefused : Form → List ℕ → List ℕ → Type 0
+  IsRefused form a b = status ≡ 1 → (side : Side) × (line : ℕ) × (rule : Rule) × (verdict form a b ≡ Refused side line rule)
+      × Appends old new (line_of (Checked (Refused side line rule)))
+
+  -- another status says nothing of these
+  not_certified : (of : ℕ) → ¬ (of ≡ 0) → (¬ (status ≡ 4) → status ≡ of) → IfCheck places left right IsCertified
+  not_certified of other same = IfCheck-all IsCertified (λ form a b zero. absurd (other (sym (same (λ four. omega arith)) ∙ zero))) places left right
+
+  not_refused : (of : ℕ) → ¬ (of ≡ 1) → (¬ (status ≡ 4) → status ≡ of) → IfCheck places left right IsRefused
+  not_refused of other same = IfCheck-all IsRefused (λ form a b one. absurd (other (sym (same (λ four. omega arith)) ∙ one))) places left right
+
+  -- with 0 the interaction is certified
+  pub certifies : (ending : Ending) → Cause places left right first second ending → (¬ (status ≡ 4) → status ≡ status_of ending)
+      → IfCheck places left right (λ form a b. status ≡ 0 → Certified (events_in a))
+  certifies (Checked (Accepted queries)) cause same =
+      IfCheck-map (λ form a b. Accepted queries ≡ verdict form a b) IsCertified (λ form a b is zero. verdict_certifies form a b queries (sym is)) places left right cause.1
+  certifies (Checked (Refused side line rule)) cause same = not_certified 1 (omega arith) same
+  certifies Usage cause same = not_certified 2 (omega arith) same
+  certifies ReadInteraction cause same = not_certified 3 (omega arith) same
+  certifies ReadProof cause same = not_certified 3 (omega arith) same
+  certifies NoMemory cause same = not_certified 5 (omega arith) same
+
+  -- with 1 the verdict is a refusal, and its line was written
+  pub refuses : (ending : Ending) → Cause places left right first second ending → (¬ (status ≡ 4) → status ≡ status_of ending)
+      → (status ≤ 1 → Appends old new (line_of ending))
+      → IfCheck places left right (λ form a b. status ≡ 1 → (side : Side) × (line : ℕ) × (rule : Rule) × (verdict form a b ≡ Refused side line rule)
+      × Appends old new (line_of (Checked (Refused side line rule))))
+  refuses (Checked (Refused side line rule)) cause same whole =
+      IfCheck-map (λ form a b. Refused side line rule ≡ verdict form a b) IsRefused (λ form a b is one. (side, line, rule, sym is, whole (omega arith))) places left right cause.1
+  refuses (Checked (Accepted queries)) cause same whole = not_refused 0 (omega arith) same
+  refuses Usage cause same whole = not_refused 2 (omega arith) same
+  refuses ReadInteraction cause same whole = not_refused 3 (omega arith) same
+  refuses ReadProof cause same whole = not_refused 3 (omega arith) same
+  refuses NoMemory cause same whole = not_refused 5 (omega arith) same

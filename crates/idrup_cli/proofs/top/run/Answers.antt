@@ -1,0 +1,10 @@
+use Rattle.idrup_cli.proofs.Endings.{certifies, refuses}
+use Rattle.idrup_cli.proofs.top.run.Goals as goal
+
+pub returns-clause-certified : goal.returns-clause-certified
+returns-clause-certified g c =
+    certifies c.tell.result (g.E.Sink.written c.args.report.now) (g.E.Sink.written c.tell.new.report) _ _ _ _ _ c.ending_of-ending.result c.ending_of-ending.ensures.cause c.tell.ensures.same
+
+pub returns-clause-refused : goal.returns-clause-refused
+returns-clause-refused g c =
+    refuses c.tell.result _ _ _ _ _ _ _ c.ending_of-ending.result c.ending_of-ending.ensures.cause c.tell.ensures.same (λ low. (c.tell.ensures.verdict low).0)

@@ -1,0 +1,310 @@
+-- What each part of a check says of the verdict: either the first of all faults, or that no fault was met so far.
+use Rattle.std.proofs.Common.{◌≡◌, ℕ, ◌+◌, ◌⊎◌, Bool, true, false, not, ◌&&◌, if◌then◌else◌, List, [], ◌∷◌, ◌++◌, map, filter, length, drop, count_by, filter_map, Option, Some, None, Ok, Err, refl, sym, ap, ◌∙◌, subst, inl, inr, arith, append-nil}
+use Rattle.std.specs.Prelude.{codes, slice_get}
+use Rattle.std.specs.declared.result.Result.{Result}
+use Rattle.std.proofs.lemmas.List.Elements.{filter_map-append}
+use Rattle.std.proofs.lemmas.List.Sums.{length-filter}
+use Rattle.session_rules.specs.declared.Side.{Side}
+use Rattle.session_rules.specs.declared.Side.TheVariants.{Interaction, Proof}
+use Rattle.session_rules.specs.declared.Event.{Event}
+use Rattle.session_rules.specs.declared.Event.TheVariants as events
+use Rattle.session_rules.specs.declared.Rule.{Rule}
+use Rattle.session_rules.specs.declared.Rule.TheVariants as rules
+use Rattle.session_rules.specs.declared.Verdict.TheVariants.{Accepted, Refused}
+use Rattle.session_rules.specs.Lines.{Line, lines, end_line, has_content}
+use Rattle.session_rules.specs.Reading.{value_of, icnf_line, value_and_more, values_of, header_fault}
+use Rattle.session_rules.specs.History.{phase, assumed, query_of, broken_unless}
+use Rattle.session_rules.specs.Pair.{ProofForm, Refusal, refusal, refusals, one_refusal, pair_faults, partner_count, partner_rules, partner_faults, match_faults, step_partners, step_matches, line_faults, partners_of, with_step, faults_from, pair_refusals, is_query, is_idle, unfinished, surplus, verdict_of, verdict_by}
+use Rattle.slice_tokens.specs.Place.{Place, present, later, last_line}
+use Rattle.slice_tokens.specs.Calls.{InLine, AtEnd, AtBound, OnlyCut}
+use Rattle.line_reading.specs.Whole.{Says, Breaks, BehindCut}
+use Rattle.icnf_lines.specs.Matching.{Meets}
+use Rattle.pair_matcher.specs.Sides.{first_rule}
+use Rattle.pair_matcher.specs.Checks.{EndsCut, IsBehindHeader, query_count, queries_in, all_queries, Checking, AtStep, AtEvent, AtProofEnd, AtSurplus}
+use Rattle.pair_matcher.proofs.CutLines.{not_behind_cut, cut_behind}
+
+-- ---- The first of some rules
+
+-- some rules, of which this is the first
+record First (r : Rule) (rs : List Rule) : Type 0 where
+  more : List Rule
+  is : rs ≡ r ∷ more
+
+first_some : (r : Rule) (rs : List Rule) → Some r ≡ first_rule rs → First r rs
+first_some r [] e = cc e
+first_some r (s ∷ rs) e = let same : s ≡ r = cc in record { more = rs; is = ap (λ x. x ∷ rs) same }
+
+first_none : (rs : List Rule) → None ≡ first_rule rs → rs ≡ []
+first_none [] e = refl
+first_none (s ∷ rs) e = cc e
+
+got_some : (r : Rule) (rs : List Rule) → slice_get rs 0 ≡ Some r → First r rs
+got_some r [] e = cc e
+got_some r (s ∷ rs) e = let same : s ≡ r = cc in record { more = rs; is = ap (λ x. x ∷ rs) same }
+
+got_none : (rs : List Rule) → slice_get rs 0 ≡ None → rs ≡ []
+got_none [] e = refl
+got_none (s ∷ rs) e = cc e
+
+-- ---- Partners
+
+-- what an event breaks with the line that comes next
+partner_says : (qs : List ℕ) (number : ℕ) (e : Event) (line : Line) (more : List Line) (v : Result Event Rule) → value_of icnf_line line ≡ v
+    → match_faults qs number e (line ∷ more) ≡ refusals Interaction line.number (partner_rules qs e v)
+partner_says qs number e line more v h = append-nil (partner_faults qs e line) ∙ ap (λ o. refusals Interaction line.number (partner_rules qs e o)) h
+
+-- a query's partner doesn't go by the assumptions
+query_partner : (qs rs : List ℕ) (c : List ℕ) (f : Event) → pair_faults qs (events.Query c) f ≡ pair_faults rs (events.Query c) f
+unfolding pair_faults
+query_partner qs rs c (events.Input d) = refl
+query_partner qs rs c (events.Query d) = refl
+query_partner qs rs c (events.Status d) = refl
+query_partner qs rs c (events.Model d) = refl
+query_partner qs rs c (events.Core d) = refl
+
+query_rules : (qs rs : List ℕ) (c : List ℕ) (o : Result Event Rule) → partner_rules qs (events.Query c) o ≡ partner_rules rs (events.Query c) o
+query_rules qs rs c (Ok f) = query_partner qs rs c f
+query_rules qs rs c (Err r) = refl
+
+query_matches : (qs rs : List ℕ) (number : ℕ) (c : List ℕ) (ls : List Line) → match_faults qs number (events.Query c) ls ≡ match_faults rs number (events.Query c) ls
+query_matches qs rs number c [] = refl
+query_matches qs rs number c (line ∷ more) = let o = value_of icnf_line line in
+    partner_says qs number (events.Query c) line more o refl ∙ ap (refusals Interaction line.number) (query_rules qs rs c o) ∙ sym (partner_says rs number (events.Query c) line more o refl)
+
+kept : (es : List Event) (e : Event) → query_of e ≡ None → assumed (es ++ e ∷ []) ≡ assumed es
+kept es e q = rw (filter_map-append, q, append-nil) refl
+
+-- so an event is held against its partner under the assumptions behind it as well as before it
+same_matches : (es : List Event) (number : ℕ) (e : Event) (ls : List Line) → match_faults (assumed es) number e ls ≡ match_faults (assumed (es ++ e ∷ [])) number e ls
+same_matches es number (events.Query c) ls = query_matches (assumed es) (assumed (es ++ events.Query c ∷ [])) number c ls
+same_matches es number (events.Input c) ls = ap (λ qs. match_faults qs number (events.Input c) ls) (sym (kept es (events.Input c) refl))
+same_matches es number (events.Status s) ls = ap (λ qs. match_faults qs number (events.Status s) ls) (sym (kept es (events.Status s) refl))
+same_matches es number (events.Model m) ls = ap (λ qs. match_faults qs number (events.Model m) ls) (sym (kept es (events.Model m) refl))
+same_matches es number (events.Core u) ls = ap (λ qs. match_faults qs number (events.Core u) ls) (sym (kept es (events.Core u) refl))
+
+-- ---- How many
+
+length-if : {X : Type 0} (b : Bool) (x : X) (ys : List X) → length (if b then x ∷ ys else ys) ≡ (if b then 1 else 0) + length ys
+length-if true x ys = omega arith
+length-if false x ys = omega arith
+
+count-cons : {X : Type 0} (p : X → Bool) (x : X) (xs : List X) → count_by p (x ∷ xs) ≡ (if p x then 1 else 0) + count_by p xs
+count-cons p x xs = sym (length-filter p (x ∷ xs)) ∙ length-if (p x) x (filter p xs) ∙ ap (λ n. (if p x then 1 else 0) + n) (length-filter p xs)
+
+module _ {S : Type 0} (form : ProofForm S) where
+  -- ---- The verdict
+
+  refused_first : (side : Side) (number : ℕ) (rule : Rule) (more : List Refusal) (a b : List ℕ) → pair_refusals form a b ≡ refusal side number rule ∷ more
+      → Refused side number rule ≡ verdict_by form a b
+  unfolding verdict_by
+  refused_first side number rule more a b e = ap (verdict_of (all_queries form b)) (sym e)
+
+  accepted : (n : ℕ) (a b : List ℕ) → pair_refusals form a b ≡ [] → all_queries form b ≡ n → Accepted n ≡ verdict_by form a b
+  unfolding verdict_by
+  accepted n a b e c = ap Accepted (sym c) ∙ ap (verdict_of (all_queries form b)) (sym e)
+
+  -- the header of the interaction is broken, or that of the proof
+  pub asked_header : (a b : List ℕ) (number : ℕ) (r : Rule) → header_fault (codes "icnf") a ≡ Some (number, r) → Refused Interaction number r ≡ verdict_by form a b
+  unfolding pair_refusals
+  asked_header a b number r e = let rest = faults_from form [] (end_line b) (drop 1 (lines b)) (drop 1 (lines a)) in
+      refused_first Interaction number r (one_refusal Proof (header_fault form.name b) ++ rest) a b (ap (λ h. one_refusal Interaction h ++ one_refusal Proof (header_fault form.name b) ++ rest) e)
+
+  pub told_header : (a b : List ℕ) (number : ℕ) (r : Rule) → header_fault (codes "icnf") a ≡ None → header_fault form.name b ≡ Some (number, r) → Refused Proof number r ≡ verdict_by form a b
+  unfolding pair_refusals
+  told_header a b number r e f = let rest = faults_from form [] (end_line b) (drop 1 (lines b)) (drop 1 (lines a)) in
+      refused_first Proof number r rest a b (ap (λ h. one_refusal Interaction h ++ one_refusal Proof (header_fault form.name b) ++ rest) e ∙ ap (λ h. one_refusal Proof h ++ rest) f)
+
+  -- ---- Lines of the proof
+
+  line_says : (ps : List S) (end : ℕ) (line : Line) (more ls : List Line) (v : Result S Rule) → value_of form.read line ≡ v
+      → faults_from form ps end (line ∷ more) ls ≡ line_faults form ps line.number v ls (faults_from form (with_step form ps v) end more (drop (partners_of form v ls) ls))
+  unfolding faults_from
+  line_says ps end line more ls v e = ap (λ o. line_faults form ps line.number o ls (faults_from form (with_step form ps o) end more (drop (partners_of form o ls) ls))) e
+
+  queries-cons : (line : Line) (more : List Line) (step : S) → value_of form.read line ≡ Ok step → queries_in form (line ∷ more) ≡ query_count (form.event step) + queries_in form more
+  unfolding values_of
+  queries-cons line more step e = ap (λ v. count_by (is_query form) (map (λ p. p.1) (value_and_more line.number v (values_of form.read more)))) e ∙ count-cons (is_query form) step (map (λ p. p.1) (values_of form.read more))
+
+  no_queries : queries_in form [] ≡ 0
+  unfolding values_of
+  no_queries = refl
+
+module _ {S : Type 0} (form : ProofForm S) (stands : List S → Type 0) (queries : ℕ) (a b : List ℕ) where
+  pub begins : (asked told : Place) (ta tb : List ℕ) → IsBehindHeader (codes "icnf") a asked ta → IsBehindHeader form.name b told tb → stands [] → Checking form stands 0 asked told a ta b tb
+  unfolding pair_refusals
+  begins asked told ta tb h k s = let count : all_queries form b ≡ queries_in form (later told tb) = ap (queries_in form) k.lines in record {
+    steps = [];
+    behind = s;
+    faults = ap (λ o. one_refusal Interaction o ++ one_refusal Proof (header_fault form.name b) ++ faults_from form [] (end_line b) (drop 1 (lines b)) (drop 1 (lines a))) h.kept
+        ∙ ap (λ o. one_refusal Proof o ++ faults_from form [] (end_line b) (drop 1 (lines b)) (drop 1 (lines a))) k.kept
+        ∙ ap (λ xs. faults_from form [] (end_line b) xs (drop 1 (lines a))) k.lines ∙ ap (λ xs. faults_from form [] (end_line b) (later told tb) xs) h.lines;
+    count = omega (arith, count);
+    last = k.last;
+    asked_cut = h.cut;
+    told_cut = k.cut;
+  }
+
+  -- a line of the proof was read
+  pub step_read : (asked p q : Place) (ta tb tc : List ℕ) (step : S) → Checking form stands queries asked p a ta b tb → Says form.read step p tb q tc → AtStep form stands queries asked q step a ta b tc
+  step_read asked p q ta tb tc step k s =
+      let ls = later asked ta in
+      let count : queries_in form (later p tb) ≡ query_count (form.event step) + queries_in form (later q tc) = ap (queries_in form) s.lines ∙ queries-cons form s.line (later q tc) step s.value in record {
+        steps = k.steps;
+        behind = k.behind;
+        faults = k.faults ∙ ap (λ xs. faults_from form k.steps (end_line b) xs ls) s.lines ∙ line_says form k.steps (end_line b) s.line (later q tc) ls (Ok step) s.value
+            ∙ ap (λ n. line_faults form k.steps n (Ok step) ls (faults_from form (k.steps ++ step ∷ []) (end_line b) (later q tc) (drop (partners_of form (Ok step) ls) ls))) s.number;
+        count = k.count ∙ ap (λ n. queries + n) count;
+        last = s.last ∙ k.last;
+        asked_cut = k.asked_cut;
+        told_cut = cut_behind form.read s.line step p q tb tc s.lines s.value s.cut k.told_cut;
+      }
+
+  -- it breaks a rule of syntax
+  pub line_broken : (asked p q : Place) (ta tb : List ℕ) (r : Rule) → Checking form stands queries asked p a ta b tb → Breaks form.read r p tb q ⊎ BehindCut r p tb → Refused Proof q.line r ≡ verdict_by form a b
+  line_broken asked p q ta tb r k (inr c) = absurd (not_behind_cut r p tb k.told_cut c)
+  line_broken asked p q ta tb r k (inl s) = let ls = later asked ta in
+      refused_first form Proof q.line r [] a b (k.faults ∙ ap (λ xs. faults_from form k.steps (end_line b) xs ls) s.lines ∙ line_says form k.steps (end_line b) s.line s.more ls (Err r) s.rule
+      ∙ ap (λ n. refusal Proof n r ∷ []) s.number)
+
+  -- its step breaks an own rule
+  pub own_broken : (asked told : Place) (ta tb : List ℕ) (step : S) (r : Rule) → AtStep form stands queries asked told step a ta b tb
+      → ((ps : List S) → stands ps → Some r ≡ first_rule (form.faults ps step)) → Refused Proof told.line r ≡ verdict_by form a b
+  own_broken asked told ta tb step r k f = let first = first_some r (form.faults k.steps step) (f k.steps k.behind) in
+      refused_first form Proof told.line r _ a b (k.faults ∙ ap (λ rs. refusals Proof told.line rs ++ step_matches form (assumed (filter_map form.event k.steps)) told.line (form.event step) (later asked ta)
+      ++ faults_from form (k.steps ++ step ∷ []) (end_line b) (later told tb) (drop (step_partners form (form.event step) (later asked ta)) (later asked ta))) first.is)
+
+  -- it breaks none
+  behind_matches : (ps : List S) (step : S) (number : ℕ) (ls : List Line) (o : Option Event) → form.event step ≡ o
+      → step_matches form (assumed (filter_map form.event ps)) number o ls ≡ step_matches form (assumed (filter_map form.event (ps ++ step ∷ []))) number o ls
+  behind_matches ps step number ls None e = refl
+  behind_matches ps step number ls (Some x) e = same_matches (filter_map form.event ps) number x ls ∙ ap (λ es. match_faults (assumed es) number x ls) (sym (pushed x e))
+    where
+      pushed : (x : Event) → form.event step ≡ Some x → filter_map form.event (ps ++ step ∷ []) ≡ filter_map form.event ps ++ x ∷ []
+      pushed x e = rw (filter_map-append, e) refl
+
+  pub own_kept : (stands_after : List S → Type 0) (asked told : Place) (ta tb : List ℕ) (step : S) → AtStep form stands queries asked told step a ta b tb
+      → ((ps : List S) → stands ps → None ≡ first_rule (form.faults ps step)) → ((ps : List S) → stands ps → stands_after (ps ++ step ∷ []))
+      → AtEvent form stands_after queries asked told (form.event step) a ta b tb
+  own_kept stands_after asked told ta tb step k f g =
+      let ls = later asked ta in
+      let rest = faults_from form (k.steps ++ step ∷ []) (end_line b) (later told tb) (drop (step_partners form (form.event step) ls) ls) in record {
+        steps = k.steps ++ step ∷ [];
+        behind = g k.steps k.behind;
+        faults = k.faults ∙ ap (λ rs. refusals Proof told.line rs ++ step_matches form (assumed (filter_map form.event k.steps)) told.line (form.event step) ls ++ rest) (first_none (form.faults k.steps step) (f k.steps k.behind))
+            ∙ ap (λ ms. ms ++ rest) (behind_matches k.steps step told.line ls (form.event step) refl);
+        count = k.count;
+        last = k.last;
+        asked_cut = k.asked_cut;
+        told_cut = k.told_cut;
+      }
+
+  -- ---- The event of a line and its partner
+
+  -- the step is no event
+  pub no_event : (asked told : Place) (ta tb : List ℕ) → AtEvent form stands queries asked told None a ta b tb → Checking form stands queries asked told a ta b tb
+  no_event asked told ta tb k = record {
+    steps = k.steps;
+    behind = k.behind;
+    faults = k.faults;
+    count = let c = k.count in omega (arith, c);
+    last = k.last;
+    asked_cut = k.asked_cut;
+    told_cut = k.told_cut;
+  }
+
+  -- what the event breaks with the line that comes next, and what comes behind it
+  partner_is : (asked told : Place) (ta tb : List ℕ) (e : Event) (line : Line) (more : List Line) (v : Result Event Rule) (k : AtEvent form stands queries asked told (Some e) a ta b tb)
+      → later asked ta ≡ line ∷ more → value_of icnf_line line ≡ v
+      → pair_refusals form a b ≡ refusals Interaction line.number (partner_rules (assumed (filter_map form.event k.steps)) e v) ++ faults_from form k.steps (end_line b) (later told tb) more
+  partner_is asked told ta tb e line more v k l h = k.faults
+      ∙ ap (λ ls. match_faults (assumed (filter_map form.event k.steps)) told.line e ls ++ faults_from form k.steps (end_line b) (later told tb) (drop (partner_count e ls) ls)) l
+      ∙ ap (λ rs. rs ++ faults_from form k.steps (end_line b) (later told tb) more) (partner_says (assumed (filter_map form.event k.steps)) told.line e line more v h)
+
+  -- the partner agrees
+  pub partner_agrees : (qs : List ℕ) (p q told : Place) (ta ua tb : List ℕ) (e : Event) (n : ℕ) → AtEvent form stands queries p told (Some e) a ta b tb
+      → ((ps : List S) → stands ps → qs ≡ assumed (filter_map form.event ps)) → Meets e qs None p ta q ua → n ≡ queries + query_count (Some e) → Checking form stands n q told a ua b tb
+  partner_agrees qs p q told ta ua tb e n k same m c = let s = m.says in let more = faults_from form k.steps (end_line b) (later told tb) (later q ua) in record {
+    steps = k.steps;
+    behind = k.behind;
+    faults = partner_is p told ta tb e s.line (later q ua) (Ok m.partner) k s.lines s.value
+        ∙ ap (λ xs. refusals Interaction s.line.number (pair_faults xs e m.partner) ++ more) (sym (same k.steps k.behind))
+        ∙ ap (λ rs. refusals Interaction s.line.number rs ++ more) (got_none (pair_faults qs e m.partner) m.rule);
+    count = let d = k.count in omega (arith, c, d);
+    last = k.last;
+    asked_cut = cut_behind icnf_line s.line m.partner p q ta ua s.lines s.value s.cut k.asked_cut;
+    told_cut = k.told_cut;
+  }
+
+  -- it breaks a rule as a partner
+  pub partner_differs : (qs : List ℕ) (p q told : Place) (ta ua tb : List ℕ) (e : Event) (r : Rule) → AtEvent form stands queries p told (Some e) a ta b tb
+      → ((ps : List S) → stands ps → qs ≡ assumed (filter_map form.event ps)) → Meets e qs (Some r) p ta q ua → Refused Interaction q.line r ≡ verdict_by form a b
+  partner_differs qs p q told ta ua tb e r k same m = let s = m.says in let more = faults_from form k.steps (end_line b) (later told tb) (later q ua) in
+      let first = got_some r (pair_faults qs e m.partner) m.rule in
+      refused_first form Interaction q.line r _ a b (partner_is p told ta tb e s.line (later q ua) (Ok m.partner) k s.lines s.value
+      ∙ ap (λ xs. refusals Interaction s.line.number (pair_faults xs e m.partner) ++ more) (sym (same k.steps k.behind))
+      ∙ ap (λ rs. refusals Interaction s.line.number rs ++ more) first.is ∙ ap (λ n. refusals Interaction n (r ∷ first.more) ++ more) s.number)
+
+  -- it breaks a rule of syntax
+  pub partner_broken : (p q told : Place) (ta tb : List ℕ) (e : Event) (r : Rule) → AtEvent form stands queries p told (Some e) a ta b tb
+      → Breaks icnf_line r p ta q ⊎ BehindCut r p ta → Refused Interaction q.line r ≡ verdict_by form a b
+  partner_broken p q told ta tb e r k (inr c) = absurd (not_behind_cut r p ta k.asked_cut c)
+  partner_broken p q told ta tb e r k (inl s) = refused_first form Interaction q.line r _ a b (partner_is p told ta tb e s.line s.more (Err r) k s.lines s.rule
+      ∙ ap (λ n. refusal Interaction n r ∷ faults_from form k.steps (end_line b) (later told tb) s.more) s.number)
+
+  -- no line is left
+  pub partner_missing : (p q told : Place) (ta ua tb : List ℕ) (e : Event) → AtEvent form stands queries p told (Some e) a ta b tb → AtEnd p ta q ua → Refused Proof told.line rules.Ended ≡ verdict_by form a b
+  partner_missing p q told ta ua tb e k end = refused_first form Proof told.line rules.Ended _ a b (k.faults
+      ∙ ap (λ ls. match_faults (assumed (filter_map form.event k.steps)) told.line e ls ++ faults_from form k.steps (end_line b) (later told tb) (drop (partner_count e ls) ls)) end.none)
+
+  -- ---- The proof's end
+
+  ended : (ps : List S) (end : ℕ) (ls : List Line) → faults_from form ps end [] ls ≡ unfinished (filter_map form.event ps) end ++ surplus ls
+  unfolding faults_from
+  ended ps end ls = refl
+
+  pub proof_ended : (asked p q : Place) (ta tb tc : List ℕ) → Checking form stands queries asked p a ta b tb → AtEnd p tb q tc → AtProofEnd form stands queries asked q.line a ta b tc
+  proof_ended asked p q ta tb tc k end = let c = k.count in let none : queries_in form (later p tb) ≡ 0 = ap (queries_in form) end.none ∙ no_queries form in record {
+    steps = k.steps;
+    behind = k.behind;
+    faults = k.faults ∙ ap (λ xs. faults_from form k.steps (end_line b) xs (later asked ta)) end.none ∙ ended k.steps (end_line b) (later asked ta)
+        ∙ ap (λ n. unfinished (filter_map form.event k.steps) n ++ surplus (later asked ta)) (sym (end.line ∙ k.last));
+    count = omega (arith, c, none);
+    asked_cut = k.asked_cut;
+  }
+
+  -- a query is open
+  pub query_open : (asked : Place) (line : ℕ) (ta tb : List ℕ) (r : Rule) → AtProofEnd form stands queries asked line a ta b tb
+      → ((ps : List S) → stands ps → Some r ≡ first_rule (broken_unless (is_idle (phase (filter_map form.event ps))) rules.Unfinished)) → Refused Proof line r ≡ verdict_by form a b
+  query_open asked line ta tb r k f = let first = first_some r (broken_unless (is_idle (phase (filter_map form.event k.steps))) rules.Unfinished) (f k.steps k.behind) in
+      refused_first form Proof line r _ a b (k.faults ∙ ap (λ rs. refusals Proof line rs ++ surplus (later asked ta)) first.is)
+
+  pub query_closed : (asked : Place) (line : ℕ) (ta tb : List ℕ) → AtProofEnd form stands queries asked line a ta b tb
+      → ((ps : List S) → stands ps → None ≡ first_rule (broken_unless (is_idle (phase (filter_map form.event ps))) rules.Unfinished)) → AtSurplus form queries asked a ta b tb
+  query_closed asked line ta tb k f = record {
+    faults = k.faults ∙ ap (λ rs. refusals Proof line rs ++ surplus (later asked ta)) (first_none (broken_unless (is_idle (phase (filter_map form.event k.steps))) rules.Unfinished) (f k.steps k.behind));
+    count = k.count;
+    asked_cut = k.asked_cut;
+  }
+
+  -- a line of the interaction is left
+  surplus_rule : (c h : Bool) → h ≡ true → (if c && not h then rules.Length else rules.Surplus) ≡ rules.Surplus
+  surplus_rule true h e = rw e refl
+  surplus_rule false h e = refl
+
+  pub line_left : (p q : Place) (ta ua tb : List ℕ) → AtSurplus form queries p a ta b tb → InLine p ta q ua → Refused Interaction q.line rules.Surplus ≡ verdict_by form a b
+  line_left p q ta ua tb k l = let line = present q ua in refused_first form Interaction q.line rules.Surplus [] a b (k.faults ∙ ap surplus l.lines
+      ∙ ap (λ r. refusal Interaction line.number r ∷ []) (surplus_rule line.cut (has_content line.words) l.content) ∙ ap (λ n. refusal Interaction n rules.Surplus ∷ []) l.number)
+
+  -- only the line is left that the bound cuts before its content
+  pub cut_left : (p q : Place) (ta ua tb : List ℕ) → AtSurplus form queries p a ta b tb → AtBound p ta q ua → Refused Interaction q.line rules.Length ≡ verdict_by form a b
+  cut_left p q ta ua tb k l = by_lines (later p ta) refl l.only
+    where
+      by_lines : (ls : List Line) → later p ta ≡ ls → OnlyCut ls (last_line p ta) → Refused Interaction q.line rules.Length ≡ verdict_by form a b
+      by_lines [] e o = absurd (subst EndsCut e (k.asked_cut.comes l.cut))
+      by_lines (line ∷ more) e o = refused_first form Interaction q.line rules.Length [] a b (k.faults ∙ ap surplus e
+          ∙ ap (λ c. refusal Interaction line.number (if c && not (has_content line.words) then rules.Length else rules.Surplus) ∷ []) o.1
+          ∙ ap (λ c. refusal Interaction line.number (if not c then rules.Length else rules.Surplus) ∷ []) o.2
+          ∙ ap (λ n. refusal Interaction n rules.Length ∷ []) (o.3 ∙ sym l.line))
+
+  pub none_left : (p q : Place) (ta ua tb : List ℕ) → AtSurplus form queries p a ta b tb → AtEnd p ta q ua → Accepted queries ≡ verdict_by form a b
+  none_left p q ta ua tb k l = accepted form queries a b (k.faults ∙ ap surplus l.none) k.count

@@ -1,0 +1,109 @@
+-- How far the check of a pair has come, and what its parts answer.
+use Rattle.std.specs.Prelude.{◌≡◌, ℕ, ◌+◌, true, if◌then◌else◌, List, [], ◌∷◌, ◌++◌, map, drop, count_by, filter_map, Option, None, Some, is_some, option_and_then}
+use Rattle.session_rules.specs.declared.Side.TheVariants.{Proof}
+use Rattle.session_rules.specs.declared.Event.{Event}
+use Rattle.session_rules.specs.declared.Rule.{Rule}
+use Rattle.session_rules.specs.declared.Verdict.{Verdict}
+use Rattle.session_rules.specs.Lines.{Line, lines, end_line}
+use Rattle.session_rules.specs.Reading.{values_of, steps_of, header_fault}
+use Rattle.session_rules.specs.History.{query_of, assumed}
+use Rattle.session_rules.specs.Pair.{ProofForm, refusals, step_partners, step_matches, faults_from, pair_refusals, is_query, unfinished, surplus, verdict_by}
+use Rattle.slice_tokens.specs.Place.{Place, WhereTold, later, is_cut, last_line}
+
+-- ---- The bytes of both streams
+
+-- where the bytes of two streams are told, those still to come are too, and the four lists are so related
+abbrev pub BothTold : (all ahead others ahead_others : Option (List ℕ)) → (List ℕ → List ℕ → List ℕ → List ℕ → Type 0) → Type 0
+BothTold all ahead others ahead_others P = WhereTold all ahead (λ a ta. WhereTold others ahead_others (λ b tb. P a ta b tb))
+
+-- the last of some lines is the one that the bound cuts
+abbrev pub EndsCut : List Line → Type 0
+EndsCut [] = ⊥
+EndsCut (line ∷ []) = line.cut ≡ true
+EndsCut (line ∷ next ∷ more) = EndsCut (next ∷ more)
+
+-- a line that the bound cuts is still to come, if there is one
+pub record CutComes (place : Place) (bytes : List ℕ) : Type 0 where
+  pub comes : is_cut place bytes ≡ true → EndsCut (later place bytes)
+
+-- ---- Headers
+
+-- the header of this name was read, and the lines behind it are still to come
+pub record IsBehindHeader (name : List ℕ) (all : List ℕ) (place : Place) (bytes : List ℕ) : Type 0 where
+  pub kept : header_fault name all ≡ None
+  pub lines : drop 1 (lines all) ≡ later place bytes
+  pub last : last_line place bytes ≡ end_line all
+  pub cut : CutComes place bytes
+
+-- what passing over a header answers: the rule that it breaks at the window's line, or none
+abbrev pub PassesHeader : List ℕ → Option Rule → List ℕ → Place → List ℕ → Type 0
+PassesHeader name None all place bytes = IsBehindHeader name all place bytes
+PassesHeader name (Some r) all place bytes = header_fault name all ≡ Some (place.line, r)
+
+-- ---- The check
+
+-- one for a query
+abbrev pub query_count : Option Event → ℕ
+query_count event = if is_some (option_and_then query_of event) then 1 else 0
+
+module _ {S : Type 0} (form : ProofForm S) where
+  -- how many steps of some lines are queries
+  abbrev pub queries_in : List Line → ℕ
+  queries_in ls = count_by (is_query form) (map (λ p. p.1) (values_of form.read ls))
+
+  abbrev pub all_queries : List ℕ → ℕ
+  all_queries b = count_by (is_query form) (map (λ p. p.1) (steps_of form.read b))
+
+-- some lines were passed over without a fault: the side stands for their steps, and the faults and the queries of the pair are
+-- those counted, and those to come
+pub record Checking {S : Type 0} (form : ProofForm S) (stands : List S → Type 0) (queries : ℕ) (asked told : Place) (a ta b tb : List ℕ) : Type 0 where
+  pub steps : List S
+  pub behind : stands steps
+  pub faults : pair_refusals form a b ≡ faults_from form steps (end_line b) (later told tb) (later asked ta)
+  pub count : all_queries form b ≡ queries + queries_in form (later told tb)
+  pub last : last_line told tb ≡ end_line b
+  pub asked_cut : CutComes asked ta
+  pub told_cut : CutComes told tb
+
+-- a line of the proof was read, which says this step
+pub record AtStep {S : Type 0} (form : ProofForm S) (stands : List S → Type 0) (queries : ℕ) (asked told : Place) (step : S) (a ta b tb : List ℕ) : Type 0 where
+  pub steps : List S
+  pub behind : stands steps
+  pub faults : pair_refusals form a b ≡ refusals Proof told.line (form.faults steps step)
+      ++ step_matches form (assumed (filter_map form.event steps)) told.line (form.event step) (later asked ta)
+      ++ faults_from form (steps ++ step ∷ []) (end_line b) (later told tb) (drop (step_partners form (form.event step) (later asked ta)) (later asked ta))
+  pub count : all_queries form b ≡ queries + (query_count (form.event step) + queries_in form (later told tb))
+  pub last : last_line told tb ≡ end_line b
+  pub asked_cut : CutComes asked ta
+  pub told_cut : CutComes told tb
+
+-- its step breaks no own rule, and the side stands for it too; its event, where it is one, is still to be held against its
+-- partner
+pub record AtEvent {S : Type 0} (form : ProofForm S) (stands : List S → Type 0) (queries : ℕ) (asked told : Place) (event : Option Event) (a ta b tb : List ℕ) : Type 0 where
+  pub steps : List S
+  pub behind : stands steps
+  pub faults : pair_refusals form a b ≡ step_matches form (assumed (filter_map form.event steps)) told.line event (later asked ta)
+      ++ faults_from form steps (end_line b) (later told tb) (drop (step_partners form event (later asked ta)) (later asked ta))
+  pub count : all_queries form b ≡ queries + (query_count event + queries_in form (later told tb))
+  pub last : last_line told tb ≡ end_line b
+  pub asked_cut : CutComes asked ta
+  pub told_cut : CutComes told tb
+
+-- the proof has ended
+pub record AtProofEnd {S : Type 0} (form : ProofForm S) (stands : List S → Type 0) (queries : ℕ) (asked : Place) (line : ℕ) (a ta b tb : List ℕ) : Type 0 where
+  pub steps : List S
+  pub behind : stands steps
+  pub faults : pair_refusals form a b ≡ unfinished (filter_map form.event steps) line ++ surplus (later asked ta)
+  pub count : all_queries form b ≡ queries
+  pub asked_cut : CutComes asked ta
+
+-- and no query is open
+pub record AtSurplus {S : Type 0} (form : ProofForm S) (queries : ℕ) (asked : Place) (a ta b tb : List ℕ) : Type 0 where
+  pub faults : pair_refusals form a b ≡ surplus (later asked ta)
+  pub count : all_queries form b ≡ queries
+  pub asked_cut : CutComes asked ta
+
+-- what one turn of the check answers: the verdict, or none, and the check goes on
+abbrev pub Turns : {S : Type 0} → ProofForm S → (List S → Type 0) → ℕ → Place → Place → Option Verdict → List ℕ → List ℕ → List ℕ → List ℕ → Type 0
+Turns form stands queries asked told None a ta b tb = Checking form stands queries asked told a ta b tb
+Turns form stands queries asked told (Some v) a ta b tb = v ≡ verdict_by form a b

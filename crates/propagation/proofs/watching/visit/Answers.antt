@@ -1,0 +1,16 @@
+use Rattle.std.proofs.Common.{◌≡◌, ℕ, true, false, Some, sym, subst, ap, ◌∙◌, refl, arith}
+use Rattle.propagation.specs.Clauses.{clauses_of}
+use Rattle.propagation.specs.Engine.{literals, IsFalseAt}
+use Rattle.propagation.specs.Watching.{engine_of, IsDone}
+use Rattle.clause_store.specs.Clauses.{slot_at, lits_at}
+use Rattle.propagation.proofs.Advancing.{advances_settled, advances_put, put_done, new_step}
+use Rattle.propagation.proofs.watching.visit.Goals as goal
+
+pub put-requires : goal.put-requires
+put-requires c =
+    let step = new_step c.args.watches.now c.args.trail.now c.in-Unit.l c.args.slot c.requires.engine c.in-Unit.ensures.found.1 c.in-Unit.ensures.found.2 in
+    record { reserved = step.reserved; free = step.free }
+
+pub returns-in-Unit-clause-steps : goal.returns-in-Unit-clause-steps
+returns-in-Unit-clause-steps c =
+    advances_put c.args.watches.now c.settle.new.watches c.args.trail.now c.put.new.self c.in-Unit.l c.args.slot c.requires.engine c.settle.ensures.moved c.settle.ensures.wide c.in-Unit.ensures.found.1 c.in-Unit.ensures.found.2 c.put.ensures

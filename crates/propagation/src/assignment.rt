@@ -1,0 +1,257 @@
+// The true literals in their order. The value of each literal lies in a table by its code, the level and the reason of a
+// true one in a table by its variable, so that no question goes over the trail.
+
+ghost use Rattle.std.specs.Prelude.{◌≡◌, ℕ, ◌≤◌, ◌<◌, List, [], length, max, OnOk, OnErr};
+ghost use Rattle.lits.specs.Literal.{max_var, neg};
+ghost use Rattle.session_rules.specs.Logic.{has};
+ghost use Rattle.propagation.specs.declared.Step.{Step};
+ghost use Rattle.propagation.specs.Engine.{literals, level_after, level_behind, reason_in, value_in, up_to_level};
+ghost use Rattle.propagation.specs.Assigned.{Assigned, nothing_assigned, with_last, with_steps, raised, lowered, value_of, IsNew};
+
+use crate::Step;
+use clause_store::Slot;
+use lits::Lit;
+use std::alloc::{AllocError, Global};
+use std::marker::Model;
+
+/// The value of a literal.
+#[derive(Clone, Copy)]
+enum Value {
+    Free,
+    True,
+    False,
+}
+
+/// The level and the reason of a variable that has a value.
+#[derive(Clone, Copy)]
+struct Mark {
+    level: u32,
+    reason: Option<Slot>,
+}
+
+/// The level behind a step of this reason.
+fn raised(level: u32, reason: Option<Slot>) -> u32
+    requires { level < max_var }
+    ensures { result ≡ raised level reason }
+{
+    if reason.is_none() { level + 1 } else { level }
+}
+
+/// The level before a step of this reason.
+fn lowered(level: u32, reason: Option<Slot>) -> u32
+    ensures { result ≡ lowered level reason }
+{
+    if reason.is_none() {
+        level.saturating_sub(1)
+    } else {
+        level
+    }
+}
+
+/// The true literals. Contracts see the steps of the trail and the greatest reserved variable.
+#[derive(Drop)]
+pub(crate) struct Assignment {
+    steps: Vec<Step>,
+    lits: Vec<Lit>,
+    // for each code the value of the literal
+    values: Vec<Value>,
+    // for each variable from 1 on its mark, which is read where the variable has a value
+    marks: Vec<Mark>,
+    level: u32,
+}
+
+impl Model for Assignment {
+    ghost use Rattle.std.specs.Prelude.{length};
+    ghost use Rattle.std.specs.Vec.{vec_capacity};
+    ghost use Rattle.propagation.specs.Assigned.{Assigned, assigned_code, IsAssigned};
+
+    ghost Value = { Assigned };
+
+    ghost coded = { assigned_code };
+
+    ghost view = { λ a. record { steps = a.steps.items; vars = length a.marks.items } };
+
+    ghost invariant = { λ a. IsAssigned a.steps.items a.lits.items a.values.items a.marks.items a.level (vec_capacity a.steps) (vec_capacity a.lits) };
+}
+
+impl Assignment {
+    /// No literal, no variable.
+    pub(crate) fn new(alloc: Global) -> Assignment
+        ensures { result ≡ nothing_assigned }
+    {
+        Assignment {
+            steps: Vec::new(alloc),
+            lits: Vec::new(alloc),
+            values: Vec::new(alloc),
+            marks: Vec::new(alloc),
+            level: 0,
+        }
+    }
+
+    /// Makes room for the variables up to this one. Where memory is wanting all stays.
+    pub(crate) fn reserve(&mut self, vars: u32) -> Result<(), AllocError>
+        requires { vars ≤ max_var }
+        ensures ok { OnOk result (self.new ≡ record { steps = self.old.steps; vars = max self.old.vars vars }) }
+        ensures err { OnErr result (self.new ≡ self.old) }
+    {
+        let before = self.values.len();
+        let count = vars as usize;
+        if count <= self.marks.len() {
+            return Ok(());
+        }
+        self.steps.reserve(count)?;
+        self.lits.reserve(count)?;
+        self.values.resize(2 * count, Value::Free)?;
+        match self.marks.resize(
+            count,
+            Mark {
+                level: 0,
+                reason: None,
+            },
+        ) {
+            Ok(()) => Ok(()),
+            Err(e) => {
+                self.values.truncate(before);
+                Err(e)
+            }
+        }
+    }
+
+    /// Puts a literal at the trail's end.
+    pub(crate) fn put(&mut self, l: Lit, reason: Option<Slot>)
+        requires { IsNew self.old.vars self.old.steps l }
+        ensures { self.new ≡ with_last self.old (record { lit = l; reason = reason }) }
+    {
+        let step = Step { lit: l, reason };
+        let level = raised(self.level, step.reason);
+        let mark = Mark {
+            level,
+            reason: step.reason,
+        };
+        self.values[l.code() as usize] = Value::True;
+        self.values[l.neg().code() as usize] = Value::False;
+        self.marks[(l.var() - 1) as usize] = mark;
+        let _ = self.steps.push(step);
+        let _ = self.lits.push(l);
+        self.level = level;
+    }
+
+    /// Takes the last literal off.
+    fn take_off(&mut self)
+        requires { 0 < length self.old.steps }
+        ensures { (s : Step) × (self.old ≡ with_last self.new s) }
+    {
+        if let Some(step) = self.steps.pop() {
+            let _ = self.lits.pop();
+            self.values[step.lit.code() as usize] = Value::Free;
+            self.values[step.lit.neg().code() as usize] = Value::Free;
+            self.level = lowered(self.level, step.reason);
+        }
+    }
+
+    /// Takes off the literals of higher levels.
+    pub(crate) fn back_to(&mut self, level: u32)
+        ensures { self.new ≡ with_steps self.old (up_to_level level self.old.steps) }
+    {
+        while self.level > level {
+            self.take_off();
+        }
+    }
+
+    /// Takes off all literals.
+    pub(crate) fn clear(&mut self)
+        ensures { self.new ≡ with_steps self.old [] }
+    {
+        while self.lits.len() > 0 {
+            self.take_off();
+        }
+    }
+
+    /// The true literals, oldest first.
+    pub(crate) fn lits(&self) -> &[Lit]
+        ensures { result.now ≡ literals self.now.steps }
+    {
+        &self.lits
+    }
+
+    /// The greatest reserved variable.
+    pub(crate) fn vars(&self) -> u32
+        ensures { result ≡ self.now.vars }
+    {
+        self.marks.len() as u32
+    }
+
+    /// How many literals were assumed.
+    pub(crate) fn level(&self) -> u32
+        ensures { result ≡ level_after self.now.steps }
+    {
+        self.level
+    }
+
+    /// The value of a literal in the table.
+    fn entry(&self, l: Lit) -> Value
+        ensures { value_of result ≡ value_in (literals self.now.steps) l }
+    {
+        let place = l.code() as usize;
+        if place < self.values.len() {
+            self.values[place]
+        } else {
+            Value::Free
+        }
+    }
+
+    /// The value of a literal.
+    pub(crate) fn value(&self, l: Lit) -> Option<bool>
+        ensures { result ≡ value_in (literals self.now.steps) l }
+    {
+        match self.entry(l) {
+            Value::Free => None,
+            Value::True => Some(true),
+            Value::False => Some(false),
+        }
+    }
+
+    /// Whether a literal is true.
+    pub(crate) fn is_true(&self, l: Lit) -> bool
+        ensures { result ≡ has (literals self.now.steps) l }
+    {
+        match self.entry(l) {
+            Value::True => true,
+            Value::False => false,
+            Value::Free => false,
+        }
+    }
+
+    /// Whether a literal is false.
+    pub(crate) fn is_false(&self, l: Lit) -> bool
+        ensures { result ≡ has (literals self.now.steps) (neg l) }
+    {
+        let _ = &self.values;
+        match self.entry(l) {
+            Value::False => true,
+            Value::True => false,
+            Value::Free => false,
+        }
+    }
+
+    /// The level of a literal's variable, where it has a value.
+    pub(crate) fn level_of(&self, l: Lit) -> Option<u32>
+        ensures { result ≡ level_behind 0 self.now.steps l }
+    {
+        match self.value(l) {
+            Some(_) => Some(self.marks[(l.var() - 1) as usize].level),
+            None => None,
+        }
+    }
+
+    /// The reason of a true literal.
+    pub(crate) fn reason(&self, l: Lit) -> Option<Slot>
+        ensures { result ≡ reason_in self.now.steps l }
+    {
+        if self.is_true(l) {
+            self.marks[(l.var() - 1) as usize].reason
+        } else {
+            None
+        }
+    }
+}

@@ -1,0 +1,11 @@
+pub mod Answering
+pub mod Calling
+pub mod Held
+pub mod Keeping
+pub mod Moving
+pub mod Placed
+pub mod Reserving
+pub mod Running
+pub mod Seen
+pub mod Swapping
+pub mod Two
