@@ -1,5 +1,5 @@
 -- One entry of the pool changed: its list in another order, or its links.
-use Rattle.std.proofs.Common.{◌≡◌, ◌≢◌, ℕ, ◌<◌, List, [], length, Option, Some, None, refl, sym, ap, ◌∙◌, subst, inl, inr, cond, true, false, nat_eq, eqb-true, eq-eqb, arith}
+use Rattle.std.proofs.Common.{◌≡◌, ℕ, ◌<◌, List, [], length, Option, Some, refl, sym, ap, ◌∙◌, subst, inl, inr, cond, true, false, nat_eq, eqb-true, eq-eqb}
 use Rattle.std.specs.Prelude.{option_map, option_and_then, unwrap_or}
 use Rattle.std.specs.List.{swap}
 use Rattle.std.specs.List.Sorted.{IsPermutation}
@@ -8,17 +8,18 @@ use Rattle.std.proofs.lemmas.List.Edits.{length-swap}
 use Rattle.std.proofs.lemmas.Bool.{cases_Bool}
 use Rattle.std.proofs.lemmas.Option.{same_Some}
 use Rattle.std.specs.FinMap.{get, insert}
-use Rattle.std.specs.BTreeSet.{BTreeSet}
-use Rattle.lits.specs.Clause.{set_of, has}
+use Rattle.lits.specs.Clause.{set_of}
 use Rattle.lits.proofs.Sets.{has-same, same_from}
 use Rattle.lits.proofs.Ascending.{set_of-same}
 use Rattle.lit_pool.specs.Entry.{Entry, Entries, entry_at, link_of, relinked as entry_relinked, with_swap as pool_with_swap, with_link as pool_with_link}
 use Rattle.lit_pool.specs.declared.Which.{Which}
 use Rattle.lit_pool.specs.declared.Which.TheVariants as which
-use Rattle.clause_store.specs.declared.rows.Kept.{Kept}
-use Rattle.clause_store.specs.Clauses.{Held, Place, Store, IsOnce, firsts, slot_at, lits_at, link_at, place_link, clause_at, weakened_clause, relinked, swapped, with_place, with_swap, with_link}
+use Rattle.clause_store.specs.declared.table.Kept.{Kept}
+use Rattle.clause_store.specs.declared.rows.Noted.{Noted}
+use Rattle.clause_store.specs.declared.table.Table.{Table}
+use Rattle.clause_store.specs.Clauses.{Place, Store, IsOnce, slot_at, lits_at, link_at, place_link, clause_at, weakened_clause, relinked, swapped, with_place, with_swap, with_link}
 use Rattle.clause_store.specs.Index.{key_of}
-use Rattle.clause_store.specs.Rows.{entry_of, place_of, held_of, store_of, row, row_slot, with_state, is_state, IsRow, AreRows, IsInside}
+use Rattle.clause_store.specs.Rows.{place_of, held_of, store_of, row, row_slot, with_state, IsRow, AreRows}
 use Rattle.clause_store.proofs.Lists.{size-once, firsts-whole, once-firsts}
 use Rattle.clause_store.proofs.Stored.{get-store_of, slot_at-row, lits_at-row, found, Found, slots_differ, get_insert_other, get_insert_same, store_put, rows_put}
 
@@ -41,14 +42,14 @@ swap-once xs a b lt lt2 o =
 -- ---- One entry changed
 
 -- what is known when an active clause's entry is changed
-pub record Changes (p : Entries) (es : List (ℕ × Kept)) (ids : List ℕ) (id s : ℕ) (e : Entry) (f : Place → Place) : Type 0 where
+pub record Changes (p : Entries) (es : Table) (ids : List Noted) (id s : ℕ) (e : Entry) (f : Place → Place) : Type 0 where
   pub all : AreRows p ids es
   pub slot : slot_at (store_of p es) id ≡ Some s
   pub shape : place_of e s ≡ f (place_of (entry_at p s) s)
   pub same_set : set_of e.lits ≡ set_of (entry_at p s).lits
   pub once : IsOnce (entry_at p s).lits → IsOnce e.lits
 
-module _ (p : Entries) (es : List (ℕ × Kept)) (ids : List ℕ) (id s : ℕ) (e : Entry) (f : Place → Place) (h : Changes p es ids id s e f) where
+module _ (p : Entries) (es : Table) (ids : List Noted) (id s : ℕ) (e : Entry) (f : Place → Place) (h : Changes p es ids id s e f) where
   here : Found true (row es id) s
   here = found true (row es id) s (sym (slot_at-row p es id) ∙ h.slot)
 
@@ -83,7 +84,7 @@ module _ (p : Entries) (es : List (ℕ × Kept)) (ids : List ℕ) (id s : ℕ) (
       let n : IsRow (Some e) ids id here.k = record { live = refl; listed = r.listed; once = h.once r.once; keyed = r.keyed ∙ ap key_of (sym h.same_set) } in
       rows_put p (insert p s e) es es ids id here.k same_rows others (subst (λ o. IsRow o ids id here.k) (sym entry-here) n) h.all
 
-pub link_at-row : (p : Entries) (es : List (ℕ × Kept)) (id s : ℕ) (w : Which) → slot_at (store_of p es) id ≡ Some s → link_at (store_of p es) id w ≡ link_of (entry_at p s) w
+pub link_at-row : (p : Entries) (es : Table) (id s : ℕ) (w : Which) → slot_at (store_of p es) id ≡ Some s → link_at (store_of p es) id w ≡ link_of (entry_at p s) w
 link_at-row p es id s w e =
     let f = found true (row es id) s (sym (slot_at-row p es id) ∙ e) in
     ap (λ o. option_and_then (place_link w) (option_and_then (λ h. h.place) o)) (get-store_of p es id ∙ ap (option_map (λ k. held_of (get p k.slot) k)) f.is) ∙ joined f.k f.slot f.on w
@@ -94,16 +95,16 @@ link_at-row p es id s w e =
 
 -- ---- The two changes
 
-swap_changes : (p : Entries) (es : List (ℕ × Kept)) (ids : List ℕ) (id s a b : ℕ) → AreRows p ids es → slot_at (store_of p es) id ≡ Some s → a < length (entry_at p s).lits → b < length (entry_at p s).lits
+swap_changes : (p : Entries) (es : Table) (ids : List Noted) (id s a b : ℕ) → AreRows p ids es → slot_at (store_of p es) id ≡ Some s → a < length (entry_at p s).lits → b < length (entry_at p s).lits
     → Changes p es ids id s (record { lits = swap (entry_at p s).lits a b; one = (entry_at p s).one; two = (entry_at p s).two }) (swapped a b)
 swap_changes p es ids id s a b h e lt lt2 = record { all = h; slot = e; shape = refl; same_set = swap-set (entry_at p s).lits a b lt lt2; once = swap-once (entry_at p s).lits a b lt lt2 }
 
-link_changes : (p : Entries) (es : List (ℕ × Kept)) (ids : List ℕ) (id s : ℕ) (w : Which) (to : Option ℕ) → AreRows p ids es → slot_at (store_of p es) id ≡ Some s
+link_changes : (p : Entries) (es : Table) (ids : List Noted) (id s : ℕ) (w : Which) (to : Option ℕ) → AreRows p ids es → slot_at (store_of p es) id ≡ Some s
     → Changes p es ids id s (entry_relinked (entry_at p s) w to) (relinked w to)
 link_changes p es ids id s which.One to h e = record { all = h; slot = e; shape = refl; same_set = refl; once = λ o. o }
 link_changes p es ids id s which.Two to h e = record { all = h; slot = e; shape = refl; same_set = refl; once = λ o. o }
 
-module _ (p p' : Entries) (es : List (ℕ × Kept)) (ids : List ℕ) (m : Store) (id s : ℕ) (v : store_of p es ≡ m) (h : AreRows p ids es) (e : slot_at m id ≡ Some s) where
+module _ (p p' : Entries) (es : Table) (ids : List Noted) (m : Store) (id s : ℕ) (v : store_of p es ≡ m) (h : AreRows p ids es) (e : slot_at m id ≡ Some s) where
   slot_inside : slot_at (store_of p es) id ≡ Some s
   slot_inside = ap (λ z. slot_at z id) v ∙ e
 
@@ -124,7 +125,7 @@ module _ (p p' : Entries) (es : List (ℕ × Kept)) (ids : List ℕ) (m : Store)
   store-relinked w to new = ap (λ z. store_of z es) new ∙ store-changed p es ids id s _ _ (link_changes p es ids id s w to h slot_inside) ∙ ap (λ z. with_link z id w to) v
 
 -- the slot of a row that is active now
-pub slot-switched : (p : Entries) (es es' : List (ℕ × Kept)) (id s t : ℕ) (k : Kept) → row es id ≡ Some k → k.slot ≡ s
+pub slot-switched : (p : Entries) (es es' : Table) (id s t : ℕ) (k : Kept) → row es id ≡ Some k → k.slot ≡ s
     → ((q : ℕ) → row es' q ≡ cond (nat_eq id q) (option_map (with_state true) (row es q)) (row es q)) → slot_at (store_of p es') id ≡ Some t → s ≡ t
 slot-switched p es es' id s t k here slot rows e =
     let r : row es' id ≡ Some (with_state true k) = rows id ∙ ap (λ b. cond b (option_map (with_state true) (row es id)) (row es id)) (eq-eqb id id refl) ∙ ap (option_map (with_state true)) here in

@@ -1,55 +1,84 @@
 -- How a change of the rows and of the pool changes the map, and what holds inside.
-use Rattle.std.proofs.Common.{◌≡◌, ◌≢◌, ℕ, suc, zero, ◌+◌, ◌<◌, ◌≤◌, ◌⊎◌, List, [], ◌∷◌, ◌++◌, length, map, Option, Some, None, refl, sym, ap, ◌∙◌, subst, inl, inr, arith, cond, true, false, Bool, not, nat_eq, ◌||◌, ◌&&◌, eqb-true, eq-eqb, IsTrue, slice_index}
+use Rattle.std.proofs.Common.{◌≡◌, ◌≢◌, ℕ, suc, zero, ◌+◌, ◌<◌, ◌⊎◌, List, [], ◌∷◌, ◌++◌, length, map, append_assoc, Option, Some, None, refl, sym, ap, ◌∙◌, subst, inl, inr, arith, cond, true, false, Bool, not, nat_eq, ◌||◌, ◌&&◌, eqb-true, eq-eqb, IsTrue}
 use Rattle.std.specs.Prelude.{is_some, option_map, option_and_then, unwrap_or, IfSome, IfNone, OnOk, OnErr, Result, Ok, Err, is_err}
 use Rattle.std.proofs.lemmas.Option.{same_Some, none-some}
-use Rattle.std.proofs.lemmas.Bool.{cases_Bool, both_ways, false_from_ne_true, and_parts}
+use Rattle.std.proofs.lemmas.Bool.{cases_Bool, both_ways, and_parts}
 use Rattle.std.proofs.lemmas.Bool.Decides.{nat_tests}
 use Rattle.std.specs.Ordering.{nat_cmp, eq_by_cmp}
 use Rattle.std.specs.Cmp.{nat_cmp_total, unsigned_tied}
-use Rattle.std.specs.Map.{lookup}
-use Rattle.std.specs.BTreeMap as tree
-use Rattle.std.specs.BTreeSet.{BTreeSet}
-use Rattle.std.specs.FinMap.{empty, get, insert, remove, find, get-insert, get-remove, get-from_entries, from_entries, get-empty, same_map, nat_cmp-IsAntisymmetric}
+use Rattle.std.specs.Option.{option_or}
+use Rattle.std.specs.FinMap.{empty, get, insert, remove, find, get-insert, get-remove, get-from_entries, get-empty, same_map, nat_cmp-IsAntisymmetric}
 use Rattle.lits.specs.Clause.{set_of}
 use Rattle.lits.proofs.Ascending.{ascends_set_of, set_of-unique}
 use Rattle.lit_pool.specs.Entry.{Entry, Entries, new_entry, entry_at, with_link}
 use Rattle.lit_pool.specs.declared.Which.TheVariants as which
 use Rattle.lit_pool.proofs.Slots.{get-insert_slot, get-remove_slot}
-use Rattle.clause_store.specs.declared.rows.Kept.{Kept}
-use Rattle.clause_store.specs.Clauses.{Held, Place, Store, IsOnce, firsts, slot_at, place_at, lits_at, literals_at, new_clause, weakened_clause, active_clause, is_active, is_held, is_weakened, IsFresh, IsSlot, IsStore, IsRestored, IsActiveWith, IsWeakenedWith}
+use Rattle.clause_store.specs.declared.table.Kept.{Kept}
+use Rattle.clause_store.specs.declared.table.Cell.{Cell}
+use Rattle.clause_store.specs.declared.rows.Noted.{Noted}
+use Rattle.clause_store.specs.declared.table.Table.{Table}
+use Rattle.clause_store.specs.declared.index.Pairs.{Pairs}
+use Rattle.clause_store.specs.Clauses.{Held, Place, Store, IsOnce, firsts, slot_at, lits_at, literals_at, new_clause, active_clause, is_active, is_held, is_weakened, IsFresh, IsStore, IsRestored, IsActiveWith, IsWeakenedWith}
 use Rattle.clause_store.specs.Index.{has_pair, key_of}
-use Rattle.clause_store.specs.Rows.{entry_of, place_of, held_of, store_of, row, literals_in, is_state, stands, row_slot, with_state, IsListed, SameListed, IsRow, ArePooled, AreRows, IsIndex, IsInside}
+use Rattle.clause_store.specs.Rows.{entry_of, place_of, held_of, store_of, row_if, listed, entries, dense_row, far_row, row, literals_in, is_state, stands, row_slot, with_state, noted, kept_of, IsListed, SameListed, IsRow, ArePooled, AreRows, IsIndex, IsInside}
 use Rattle.clause_store.proofs.Lists.{set_of-firsts, once-firsts}
+
+-- ---- The entries of a table
+
+ties : (q : ℕ) → eq_by_cmp nat_cmp q q ≡ true
+ties q = grind (arith, nat_tests)
+
+untied : (q k : ℕ) → q ≢ k → eq_by_cmp nat_cmp q k ≡ false
+untied q k ne = grind (arith, nat_tests)
+
+tied : (q k : ℕ) → eq_by_cmp nat_cmp q k ≡ nat_eq q k
+tied q k = grind (arith, nat_tests)
+
+-- the row of the far part
+find-far : (q : ℕ) (es : List (ℕ × Kept)) → find nat_cmp q es ≡ far_row es q
+find-far q [] = refl
+find-far q (e ∷ es) = ap (λ b. cond b (Some e.1) (find nat_cmp q es)) (tied q e.0) ∙ ap (λ o. cond (nat_eq q e.0) (Some e.1) o) (find-far q es)
+
+find-skip : (n q : ℕ) (o : Option Kept) (es : List (ℕ × Kept)) → q ≢ n → find nat_cmp q (row_if n o ++ es) ≡ find nat_cmp q es
+find-skip n q None es ne = refl
+find-skip n q (Some k) es ne = rw (untied q n ne) refl
+
+-- the dense part has no id before its first
+find-past : (n q : ℕ) (cs : List Cell) (es : List (ℕ × Kept)) → q < n → find nat_cmp q (listed n cs ++ es) ≡ find nat_cmp q es
+find-past n q [] es lt = refl
+find-past n q (c ∷ cs) es lt = ap (find nat_cmp q) (append_assoc (row_if n (kept_of c)) (listed (suc n) cs) es) ∙ find-skip n q (kept_of c) (listed (suc n) cs ++ es) (omega arith) ∙ find-past (suc n) q cs es (omega arith)
+
+-- the row of the dense part where it has one, else what stands behind it
+find-dense : (n j q : ℕ) (cs : List Cell) (es : List (ℕ × Kept)) → q ≡ n + j → find nat_cmp q (listed n cs ++ es) ≡ option_or (dense_row cs j) (find nat_cmp q es)
+find-dense n j q [] es e = refl
+find-dense n zero q (c ∷ cs) es e = ap (find nat_cmp q) (append_assoc (row_if n (kept_of c)) (listed (suc n) cs) es) ∙ at (kept_of c) (find-past (suc n) q cs es (omega arith))
+  where
+    at : (o : Option Kept) → find nat_cmp q (listed (suc n) cs ++ es) ≡ find nat_cmp q es → find nat_cmp q (row_if n o ++ (listed (suc n) cs ++ es)) ≡ option_or o (find nat_cmp q es)
+    at None h = h
+    at (Some k) h = let same_id : q ≡ n = omega arith in rw (same_id, ties n) refl
+find-dense n (suc j) q (c ∷ cs) es e = ap (find nat_cmp q) (append_assoc (row_if n (kept_of c)) (listed (suc n) cs) es) ∙ find-skip n q (kept_of c) (listed (suc n) cs ++ es) (omega arith) ∙ find-dense (suc n) j q cs es (omega arith)
+
+find-entries : (t : Table) (q : ℕ) → find nat_cmp q (entries t) ≡ row t q
+find-entries t q = find-dense 0 q q t.dense.items t.far.entries (omega arith) ∙ ap (λ o. option_or (dense_row t.dense.items q) o) (find-far q t.far.entries)
 
 -- ---- The map at an id
 
-held_row : Entries → Option Kept → Option Held
-held_row pool o = option_map (λ k. held_of (get pool k.slot) k) o
-
-find-map : (pool : Entries) (es : List (ℕ × Kept)) (q : ℕ) → find nat_cmp q (map (λ e. (e.0, held_of (get pool e.1.slot) e.1)) es) ≡ option_map (λ k. held_of (get pool k.slot) k) (row es q)
+find-map : (pool : Entries) (es : List (ℕ × Kept)) (q : ℕ) → find nat_cmp q (map (λ e. (e.0, held_of (get pool e.1.slot) e.1)) es) ≡ option_map (λ k. held_of (get pool k.slot) k) (find nat_cmp q es)
 find-map pool [] q = refl
 find-map pool (e ∷ es) q = elim (cases_Bool (eq_by_cmp nat_cmp q e.0)) [
   | inl y ↦ rw y refl
   | inr n ↦ rw n (find-map pool es q)
 ]
 
-pub get-store_of : (pool : Entries) (es : List (ℕ × Kept)) (q : ℕ) → get (store_of pool es) q ≡ option_map (λ k. held_of (get pool k.slot) k) (row es q)
+pub get-store_of : (pool : Entries) (es : Table) (q : ℕ) → get (store_of pool es) q ≡ option_map (λ k. held_of (get pool k.slot) k) (row es q)
 unfolding store_of
-get-store_of pool es q = get-from_entries nat_cmp_total _ q ∙ find-map pool es q
+get-store_of pool es q = get-from_entries nat_cmp_total _ q ∙ find-map pool (entries es) q ∙ ap (option_map (λ k. held_of (get pool k.slot) k)) (find-entries es q)
 
 pub same : (m n : Store) → ((q : ℕ) → get m q ≡ get n q) → m ≡ n
 same m n h = same_map nat_cmp_total nat_cmp-IsAntisymmetric m n h
 
-pub store_of-nil : (pool : Entries) → store_of pool [] ≡ empty
-unfolding store_of
-store_of-nil pool = refl
-
-pub inside-nil : (pool : Entries) (a w : BTreeSet (ℕ × ℕ)) (ids : List ℕ) → a.keys ≡ [] → w.keys ≡ [] → IsInside pool [] a w ids
-inside-nil pool a w ids e f = record {
-  rows = λ q k h. absurd (none-some k h);
-  active_index = λ key q. rw e refl;
-  weakened_index = λ key q. rw f refl;
-}
+pub store_of-nil : (pool : Entries) (t : Table) → ((q : ℕ) → row t q ≡ None) → store_of pool t ≡ empty
+store_of-nil pool t none = same _ _ (λ q. get-store_of pool t q ∙ ap (option_map (λ k. held_of (get pool k.slot) k)) (none q) ∙ sym (get-empty nat_cmp q))
 
 ids_apart : (a b : ℕ) → nat_eq a b ≡ false → nat_eq b a ≡ false
 ids_apart a b h = grind (arith, nat_tests)
@@ -67,7 +96,7 @@ get_cut m id q = get-remove nat_cmp_total m id q ∙ ap (λ b. cond b None (get 
     flip q id = grind (arith, nat_tests)
 
 -- one row put, where the entries of the others stay
-pub store_put : (p p' : Entries) (es es' : List (ℕ × Kept)) (id : ℕ) (k : Kept) (h : Held)
+pub store_put : (p p' : Entries) (es es' : Table) (id : ℕ) (k : Kept) (h : Held)
     → ((q : ℕ) → row es' q ≡ cond (nat_eq id q) (Some k) (row es q))
     → ((q : ℕ) (r : Kept) → nat_eq id q ≡ false → row es q ≡ Some r → get p' r.slot ≡ get p r.slot)
     → held_of (get p' k.slot) k ≡ h
@@ -86,7 +115,7 @@ store_put p p' es es' id k h rows entries here = same _ _ (λ q.
     ]
 
 -- one row taken out, where the entries of the others stay
-pub store_cut : (p p' : Entries) (es es' : List (ℕ × Kept)) (id : ℕ)
+pub store_cut : (p p' : Entries) (es es' : Table) (id : ℕ)
     → ((q : ℕ) → row es' q ≡ cond (nat_eq id q) None (row es q))
     → ((q : ℕ) (r : Kept) → nat_eq id q ≡ false → row es q ≡ Some r → get p' r.slot ≡ get p r.slot)
     → store_of p' es' ≡ remove (store_of p es) id
@@ -104,30 +133,30 @@ store_cut p p' es es' id rows entries = same _ _ (λ q.
     ]
 
 -- the same rows
-pub store_same : (p : Entries) (es es' : List (ℕ × Kept)) → ((q : ℕ) → row es' q ≡ row es q) → store_of p es' ≡ store_of p es
+pub store_same : (p : Entries) (es es' : Table) → ((q : ℕ) → row es' q ≡ row es q) → store_of p es' ≡ store_of p es
 store_same p es es' rows = same _ _ (λ q. get-store_of p es' q ∙ ap (λ o. option_map (λ k. held_of (get p k.slot) k) o) (rows q) ∙ sym (get-store_of p es q))
 
 -- ---- What holds inside
 
-pub inside-same : (p : Entries) (es es' : List (ℕ × Kept)) (a a' w w' : BTreeSet (ℕ × ℕ)) (ids : List ℕ)
+pub inside-same : (p : Entries) (es es' : Table) (a a' w w' : Pairs) (ids : List Noted)
     → ((q : ℕ) → row es' q ≡ row es q) → ((k i : ℕ) → has_pair a' k i ≡ has_pair a k i) → ((k i : ℕ) → has_pair w' k i ≡ has_pair w k i)
     → IsInside p es a w ids → IsInside p es' a' w' ids
 inside-same p es es' a a' w w' ids rows in_a in_w h = record {
   rows = λ q k e. h.rows q k (sym (rows q) ∙ e);
-  active_index = λ key q. in_a key q ∙ h.active_index key q ∙ ap (stands true key) (sym (rows q));
-  weakened_index = λ key q. in_w key q ∙ h.weakened_index key q ∙ ap (stands false key) (sym (rows q));
+  active_index = λ key q. in_a key q ∙ h.active_index key q ∙ ap (stands ids true key) (sym (rows q));
+  weakened_index = λ key q. in_w key q ∙ h.weakened_index key q ∙ ap (stands ids false key) (sym (rows q));
 }
 
 -- the slots of two rows differ
-pub slots_differ : (p : Entries) (es : List (ℕ × Kept)) (ids : List ℕ) (q r : ℕ) (k j : Kept) → AreRows p ids es → nat_eq r q ≡ false → row es q ≡ Some k → row es r ≡ Some j → k.slot ≢ j.slot
+pub slots_differ : (p : Entries) (es : Table) (ids : List Noted) (q r : ℕ) (k j : Kept) → AreRows p ids es → nat_eq r q ≡ false → row es q ≡ Some k → row es r ≡ Some j → k.slot ≢ j.slot
 slots_differ p es ids q r k j h n e f same_slot =
     let a : IsListed ids k.slot q = (h q k e).listed in
     let b : IsListed ids j.slot r = (h r j f).listed in
-    let c : q ≡ r = sym a.1 ∙ ap (λ s. slice_index ids s) same_slot ∙ b.1 in
+    let c : q ≡ r = sym a.1 ∙ ap (λ s. (noted ids s).id) same_slot ∙ b.1 in
     both_ways _ n (eq-eqb r q (sym c))
 
 -- a slot that isn't live is no row's
-pub slot_dead : (p : Entries) (es : List (ℕ × Kept)) (ids : List ℕ) (s q : ℕ) (k : Kept) → AreRows p ids es → get p s ≡ None → row es q ≡ Some k → k.slot ≢ s
+pub slot_dead : (p : Entries) (es : Table) (ids : List Noted) (s q : ℕ) (k : Kept) → AreRows p ids es → get p s ≡ None → row es q ≡ Some k → k.slot ≢ s
 slot_dead p es ids s q k h dead e same_slot =
     let l : is_some (get p s) ≡ true = subst (λ z. is_some (get p z) ≡ true) same_slot (h q k e).live in
     both_ways _ (ap is_some dead) l
@@ -158,15 +187,29 @@ freed p s e dead = same_map nat_cmp_total nat_cmp-IsAntisymmetric _ _ (λ q. get
     ]
 
 -- an id noted at a slot that isn't live
-pub rows-noted : (p : Entries) (es : List (ℕ × Kept)) (ids ids' : List ℕ) (s : ℕ) → AreRows p ids es → get p s ≡ None → SameListed ids ids' s → AreRows p ids' es
-rows-noted p es ids ids' s h dead note = λ q k e.
-    let r = h q k e in record { live = r.live; listed = note k.slot q (slot_dead p es ids s q k h dead e) r.listed; once = r.once; keyed = r.keyed }
+module _ (p : Entries) (es : Table) (ids ids' : List Noted) (s : ℕ) (h : AreRows p ids es) (dead : get p s ≡ None) (note : SameListed ids ids' s) where
+  note_of : (q : ℕ) (k : Kept) → row es q ≡ Some k → (k.slot < length ids') × (noted ids' k.slot ≡ noted ids k.slot)
+  note_of q k e = note k.slot (slot_dead p es ids s q k h dead e) (h q k e).listed.0
 
-pub inside-noted : (p : Entries) (es : List (ℕ × Kept)) (a w : BTreeSet (ℕ × ℕ)) (ids ids' : List ℕ) (s : ℕ) → IsInside p es a w ids → get p s ≡ None → SameListed ids ids' s → IsInside p es a w ids'
-inside-noted p es a w ids ids' s h dead note = record { rows = rows-noted p es ids ids' s h.rows dead note; active_index = h.active_index; weakened_index = h.weakened_index }
+  pub rows-noted : AreRows p ids' es
+  rows-noted = λ q k e. let r = h q k e in let n = note_of q k e in record { live = r.live; listed = (n.0, ap (λ z. z.id) n.1 ∙ r.listed.1); once = r.once; keyed = ap (λ z. z.key) n.1 ∙ r.keyed }
+
+  pub index-noted : (state : Bool) (x : Pairs) → IsIndex ids state x es → IsIndex ids' state x es
+  index-noted state x g = λ c q. g c q ∙ stands-noted c q (row es q) refl
+    where
+      stands-noted : (c q : ℕ) (o : Option Kept) → row es q ≡ o → stands ids state c o ≡ stands ids' state c o
+      stands-noted c q None e = refl
+      stands-noted c q (Some k) e = ap (λ z. nat_eq z.key c && is_state state k.active) (sym (note_of q k e).1)
+
+pub inside-noted : (p : Entries) (es : Table) (a w : Pairs) (ids ids' : List Noted) (s : ℕ) → IsInside p es a w ids → get p s ≡ None → SameListed ids ids' s → IsInside p es a w ids'
+inside-noted p es a w ids ids' s h dead note = record {
+  rows = rows-noted p es ids ids' s h.rows dead note;
+  active_index = index-noted p es ids ids' s h.rows dead note true a h.active_index;
+  weakened_index = index-noted p es ids ids' s h.rows dead note false w h.weakened_index;
+}
 
 -- rows with one put, where the entries of the others stay
-pub rows_put : (p p' : Entries) (es es' : List (ℕ × Kept)) (ids : List ℕ) (id : ℕ) (k : Kept)
+pub rows_put : (p p' : Entries) (es es' : Table) (ids : List Noted) (id : ℕ) (k : Kept)
     → ((q : ℕ) → row es' q ≡ cond (nat_eq id q) (Some k) (row es q))
     → ((q : ℕ) (r : Kept) → nat_eq id q ≡ false → row es q ≡ Some r → get p' r.slot ≡ get p r.slot)
     → IsRow (get p' k.slot) ids id k → AreRows p ids es → AreRows p' ids es'
@@ -180,7 +223,7 @@ rows_put p p' es es' ids id k rows entries here h = λ q r e. by_case q r (cases
         let g : row es q ≡ Some r = ap (λ b. cond b (Some k) (row es q)) (sym n) ∙ sym (rows q) ∙ e in
         subst (λ z. IsRow z ids q r) (sym (entries q r n g)) (h q r g)
 
-rows_cut : (p p' : Entries) (es es' : List (ℕ × Kept)) (ids : List ℕ) (id : ℕ)
+rows_cut : (p p' : Entries) (es es' : Table) (ids : List Noted) (id : ℕ)
     → ((q : ℕ) → row es' q ≡ cond (nat_eq id q) None (row es q))
     → ((q : ℕ) (r : Kept) → nat_eq id q ≡ false → row es q ≡ Some r → get p' r.slot ≡ get p r.slot)
     → AreRows p ids es → AreRows p' ids es'
@@ -196,17 +239,17 @@ rows_cut p p' es es' ids id rows entries h = λ q r e. by_case q r (cases_Bool (
 -- ---- The indices
 
 -- an index with a pair, and the row of its id as it stands
-index_put : (state : Bool) (s s' : BTreeSet (ℕ × ℕ)) (es es' : List (ℕ × Kept)) (key id : ℕ) (k : Kept) → IsIndex state s es
+index_put : (ids : List Noted) (state : Bool) (s s' : Pairs) (es es' : Table) (key id : ℕ) (k : Kept) → IsIndex ids state s es
     → ((c i : ℕ) → has_pair s' c i ≡ ((nat_eq key c && nat_eq id i) || has_pair s c i))
     → ((q : ℕ) → row es' q ≡ cond (nat_eq id q) (Some k) (row es q))
-    → k.key ≡ key → is_state state k.active ≡ true → ((c : ℕ) → stands state c (row es id) ≡ false)
-    → IsIndex state s' es'
-index_put state s s' es es' key id k h pairs rows keyed on off = λ c q. pairs c q ∙ ap (λ b. (nat_eq key c && nat_eq id q) || b) (h c q) ∙ at c q ∙ ap (stands state c) (sym (rows q))
+    → (noted ids k.slot).key ≡ key → is_state state k.active ≡ true → ((c : ℕ) → stands ids state c (row es id) ≡ false)
+    → IsIndex ids state s' es'
+index_put ids state s s' es es' key id k h pairs rows keyed on off = λ c q. pairs c q ∙ ap (λ b. (nat_eq key c && nat_eq id q) || b) (h c q) ∙ at c q ∙ ap (stands ids state c) (sym (rows q))
   where
-    at : (c q : ℕ) → ((nat_eq key c && nat_eq id q) || stands state c (row es q)) ≡ stands state c (cond (nat_eq id q) (Some k) (row es q))
+    at : (c q : ℕ) → ((nat_eq key c && nat_eq id q) || stands ids state c (row es q)) ≡ stands ids state c (cond (nat_eq id q) (Some k) (row es q))
     at c q = elim (cases_Bool (nat_eq id q)) [
-      | inl y ↦ let o : stands state c (row es q) ≡ false = subst (λ z. stands state c (row es z) ≡ false) (eqb-true id q y) (off c) in rw (y, o, keyed, on) (regroup (nat_eq key c))
-      | inr n ↦ rw n (drop_and (nat_eq key c) (stands state c (row es q)))
+      | inl y ↦ let o : stands ids state c (row es q) ≡ false = subst (λ z. stands ids state c (row es z) ≡ false) (eqb-true id q y) (off c) in rw (y, o, keyed, on) (regroup (nat_eq key c))
+      | inr n ↦ rw n (drop_and (nat_eq key c) (stands ids state c (row es q)))
     ]
       where
         regroup : (b : Bool) → ((b && true) || false) ≡ (b && true)
@@ -218,12 +261,12 @@ index_put state s s' es es' key id k h pairs rows keyed on off = λ c q. pairs c
         drop_and false d = refl
 
 -- an index without the pair of a row that has left its state
-index_cut : (state : Bool) (s s' : BTreeSet (ℕ × ℕ)) (es es' : List (ℕ × Kept)) (id : ℕ) (k : Kept) → IsIndex state s es
-    → row es id ≡ Some k
-    → ((c i : ℕ) → has_pair s' c i ≡ (not (nat_eq k.key c && nat_eq id i) && has_pair s c i))
-    → ((c : ℕ) → stands state c (row es' id) ≡ false) → ((q : ℕ) → nat_eq id q ≡ false → row es' q ≡ row es q)
-    → IsIndex state s' es'
-index_cut state s s' es es' id k h here pairs off others = λ c q. pairs c q ∙ ap (λ b. not (nat_eq k.key c && nat_eq id q) && b) (h c q) ∙ at c q
+index_cut : (ids : List Noted) (state : Bool) (s s' : Pairs) (es es' : Table) (key id : ℕ) (k : Kept) → IsIndex ids state s es
+    → row es id ≡ Some k → (noted ids k.slot).key ≡ key
+    → ((c i : ℕ) → has_pair s' c i ≡ (not (nat_eq key c && nat_eq id i) && has_pair s c i))
+    → ((c : ℕ) → stands ids state c (row es' id) ≡ false) → ((q : ℕ) → nat_eq id q ≡ false → row es' q ≡ row es q)
+    → IsIndex ids state s' es'
+index_cut ids state s s' es es' key id k h here keyed pairs off others = λ c q. pairs c q ∙ ap (λ b. not (nat_eq key c && nat_eq id q) && b) (h c q) ∙ at c q
   where
     gone : (a b : Bool) → (not (a && true) && (a && b)) ≡ false
     gone true b = refl
@@ -233,23 +276,23 @@ index_cut state s s' es es' id k h here pairs off others = λ c q. pairs c q ∙
     stays true b = refl
     stays false b = refl
 
-    at : (c q : ℕ) → (not (nat_eq k.key c && nat_eq id q) && stands state c (row es q)) ≡ stands state c (row es' q)
+    at : (c q : ℕ) → (not (nat_eq key c && nat_eq id q) && stands ids state c (row es q)) ≡ stands ids state c (row es' q)
     at c q = elim (cases_Bool (nat_eq id q)) [
       | inl y ↦ let f : row es q ≡ Some k = subst (λ z. row es z ≡ Some k) (eqb-true id q y) here in
-          let o : stands state c (row es' q) ≡ false = subst (λ z. stands state c (row es' z) ≡ false) (eqb-true id q y) (off c) in rw (y, f, o) (gone (nat_eq k.key c) (is_state state k.active))
-      | inr n ↦ rw (n, others q n) (stays (nat_eq k.key c) (stands state c (row es q)))
+          let o : stands ids state c (row es' q) ≡ false = subst (λ z. stands ids state c (row es' z) ≡ false) (eqb-true id q y) (off c) in rw (y, f, o, keyed) (gone (nat_eq key c) (is_state state k.active))
+      | inr n ↦ rw (n, others q n) (stays (nat_eq key c) (stands ids state c (row es q)))
     ]
 
 -- an index that a change of one row doesn't touch
-index_kept : (state : Bool) (s : BTreeSet (ℕ × ℕ)) (es es' : List (ℕ × Kept)) (id : ℕ) → IsIndex state s es
-    → ((c : ℕ) → stands state c (row es' id) ≡ stands state c (row es id)) → ((q : ℕ) → nat_eq id q ≡ false → row es' q ≡ row es q)
-    → IsIndex state s es'
-index_kept state s es es' id h here others = λ c q. h c q ∙ at c q
+index_kept : (ids : List Noted) (state : Bool) (s : Pairs) (es es' : Table) (id : ℕ) → IsIndex ids state s es
+    → ((c : ℕ) → stands ids state c (row es' id) ≡ stands ids state c (row es id)) → ((q : ℕ) → nat_eq id q ≡ false → row es' q ≡ row es q)
+    → IsIndex ids state s es'
+index_kept ids state s es es' id h here others = λ c q. h c q ∙ at c q
   where
-    at : (c q : ℕ) → stands state c (row es q) ≡ stands state c (row es' q)
+    at : (c q : ℕ) → stands ids state c (row es q) ≡ stands ids state c (row es' q)
     at c q = elim (cases_Bool (nat_eq id q)) [
-      | inl y ↦ sym (subst (λ z. stands state c (row es' z) ≡ stands state c (row es z)) (eqb-true id q y) (here c))
-      | inr n ↦ ap (stands state c) (sym (others q n))
+      | inl y ↦ sym (subst (λ z. stands ids state c (row es' z) ≡ stands ids state c (row es z)) (eqb-true id q y) (here c))
+      | inr n ↦ ap (stands ids state c) (sym (others q n))
     ]
 
 -- ---- What a row says of the map
@@ -272,31 +315,31 @@ slot_of_row : (p : Entries) (o : Option Kept) → option_map (λ z. z.slot) (opt
 slot_of_row p None = refl
 slot_of_row p (Some k) = elim (cases_Bool k.active) [ inl y ↦ rw y refl | inr n ↦ rw n refl ]
 
-pub slot_at-row : (p : Entries) (es : List (ℕ × Kept)) (q : ℕ) → slot_at (store_of p es) q ≡ row_slot true (row es q)
+pub slot_at-row : (p : Entries) (es : Table) (q : ℕ) → slot_at (store_of p es) q ≡ row_slot true (row es q)
 slot_at-row p es q = ap (λ o. option_map (λ z. z.slot) (option_and_then (λ h. h.place) o)) (get-store_of p es q) ∙ slot_of_row p (row es q)
 
-pub held-row : (p : Entries) (es : List (ℕ × Kept)) (q : ℕ) → is_held (store_of p es) q ≡ is_some (row es q)
+pub held-row : (p : Entries) (es : Table) (q : ℕ) → is_held (store_of p es) q ≡ is_some (row es q)
 held-row p es q = ap is_some (get-store_of p es q) ∙ mapped (row es q)
   where
     mapped : (o : Option Kept) → is_some (option_map (λ k. held_of (get p k.slot) k) o) ≡ is_some o
     mapped None = refl
     mapped (Some k) = refl
 
-pub weakened-row : (p : Entries) (es : List (ℕ × Kept)) (q : ℕ) → is_weakened (store_of p es) q ≡ is_some (row_slot false (row es q))
+pub weakened-row : (p : Entries) (es : Table) (q : ℕ) → is_weakened (store_of p es) q ≡ is_some (row_slot false (row es q))
 weakened-row p es q = ap (λ b. b && not (is_active (store_of p es) q)) (held-row p es q) ∙ ap (λ o. is_some (row es q) && not (is_some o)) (slot_at-row p es q) ∙ by_row (row es q)
   where
     by_row : (o : Option Kept) → (is_some o && not (is_some (row_slot true o))) ≡ is_some (row_slot false o)
     by_row None = refl
     by_row (Some k) = elim (cases_Bool k.active) [ inl y ↦ rw y refl | inr n ↦ rw n refl ]
 
-pub literals_at-row : (p : Entries) (es : List (ℕ × Kept)) (q : ℕ) → literals_at (store_of p es) q ≡ unwrap_or (literals_in p es q) []
+pub literals_at-row : (p : Entries) (es : Table) (q : ℕ) → literals_at (store_of p es) q ≡ unwrap_or (literals_in p es q) []
 literals_at-row p es q = ap (λ o. unwrap_or (option_map (λ h. h.literals) o) []) (get-store_of p es q) ∙ by_row (row es q)
   where
     by_row : (o : Option Kept) → unwrap_or (option_map (λ h. h.literals) (option_map (λ k. held_of (get p k.slot) k) o)) [] ≡ unwrap_or (option_map (λ k. set_of (entry_of (get p k.slot)).lits) o) []
     by_row None = refl
     by_row (Some k) = refl
 
-pub lits_at-row : (p : Entries) (es : List (ℕ × Kept)) (q s : ℕ) → row_slot true (row es q) ≡ Some s → lits_at (store_of p es) q ≡ (entry_of (get p s)).lits
+pub lits_at-row : (p : Entries) (es : Table) (q s : ℕ) → row_slot true (row es q) ≡ Some s → lits_at (store_of p es) q ≡ (entry_of (get p s)).lits
 lits_at-row p es q s e =
     ap (λ o. unwrap_or (option_map (λ z. z.lits) (option_and_then (λ h. h.place) o)) []) (get-store_of p es q) ∙ by_row (row es q) e
   where
@@ -307,13 +350,13 @@ lits_at-row p es q s e =
       | inr n ↦ let g : None ≡ Some s = rw n at f in absurd (none-some s g)
     ]
 
-pub pooled : (p : Entries) (es : List (ℕ × Kept)) (ids : List ℕ) → AreRows p ids es → ArePooled p es
+pub pooled : (p : Entries) (es : Table) (ids : List Noted) → AreRows p ids es → ArePooled p es
 pooled p es ids h = λ q k e. let r = h q k e in (r.live, r.once)
 
 pub set_of_set : (ls : List ℕ) → set_of (set_of ls) ≡ set_of ls
 set_of_set ls = sym (set_of-unique (set_of ls) (set_of ls) (ascends_set_of ls) (λ l. refl))
 
-pub is_store : (p : Entries) (es : List (ℕ × Kept)) (ids : List ℕ) → AreRows p ids es → IsStore (store_of p es)
+pub is_store : (p : Entries) (es : Table) (ids : List Noted) → AreRows p ids es → IsStore (store_of p es)
 is_store p es ids h = record { slots_apart = apart; same_literals = lists; sets = sets }
   where
     apart : (a b s : ℕ) → slot_at (store_of p es) a ≡ Some s → slot_at (store_of p es) b ≡ Some s → a ≡ b
@@ -350,15 +393,15 @@ is_store p es ids h = record { slots_apart = apart; same_literals = lists; sets 
 -- ---- Ids by set
 
 -- a pair of an index whose row has the set is that of an id in this state
-pub index_at : (state : Bool) (p : Entries) (es : List (ℕ × Kept)) (s : BTreeSet (ℕ × ℕ)) (set : List ℕ) (i : ℕ) → IsIndex state s es
+pub index_at : (ids : List Noted) (state : Bool) (p : Entries) (es : Table) (s : Pairs) (set : List ℕ) (i : ℕ) → IsIndex ids state s es
     → has_pair s (key_of set) i ≡ true → literals_in p es i ≡ Some set → IsTrue (is_some (row_slot state (row es i))) × (literals_at (store_of p es) i ≡ set)
-index_at state p es s set i h m e = (on (row es i) (sym (h (key_of set) i) ∙ m), literals_at-row p es i ∙ ap (λ o. unwrap_or o []) e)
+index_at ids state p es s set i h m e = (on (row es i) (sym (h (key_of set) i) ∙ m), literals_at-row p es i ∙ ap (λ o. unwrap_or o []) e)
   where
-    on : (o : Option Kept) → stands state (key_of set) o ≡ true → is_some (row_slot state o) ≡ true
+    on : (o : Option Kept) → stands ids state (key_of set) o ≡ true → is_some (row_slot state o) ≡ true
     on None f = cc
-    on (Some k) f = let g : is_state state k.active ≡ true = (and_parts (nat_eq k.key (key_of set)) _ f).1 in rw g refl
+    on (Some k) f = let g : is_state state k.active ≡ true = (and_parts (nat_eq (noted ids k.slot).key (key_of set)) _ f).1 in rw g refl
 
-pub index_from : (state : Bool) (p : Entries) (es : List (ℕ × Kept)) (ids : List ℕ) (s : BTreeSet (ℕ × ℕ)) (set : List ℕ) (i : ℕ) → AreRows p ids es → IsIndex state s es
+pub index_from : (state : Bool) (p : Entries) (es : Table) (ids : List Noted) (s : Pairs) (set : List ℕ) (i : ℕ) → AreRows p ids es → IsIndex ids state s es
     → IsTrue (is_some (row_slot state (row es i))) → literals_at (store_of p es) i ≡ set → (has_pair s (key_of set) i ≡ true) × (literals_in p es i ≡ Some set)
 index_from state p es ids s set i rows h on e = (h (key_of set) i ∙ stand (row es i) refl on (sym (literals_at-row p es i) ∙ e), lits (row es i) on (sym (literals_at-row p es i) ∙ e))
   where
@@ -366,18 +409,18 @@ index_from state p es ids s set i rows h on e = (h (key_of set) i ∙ stand (row
     lits None f g = cc
     lits (Some k) f g = ap (λ z. Some z) g
 
-    stand : (o : Option Kept) → row es i ≡ o → is_some (row_slot state o) ≡ true → unwrap_or (option_map (λ k. set_of (entry_of (get p k.slot)).lits) o) [] ≡ set → stands state (key_of set) o ≡ true
+    stand : (o : Option Kept) → row es i ≡ o → is_some (row_slot state o) ≡ true → unwrap_or (option_map (λ k. set_of (entry_of (get p k.slot)).lits) o) [] ≡ set → stands ids state (key_of set) o ≡ true
     stand None r f g = cc
     stand (Some k) r f g =
-        let keyed : k.key ≡ key_of set = (rows i k r).keyed ∙ ap key_of g in
+        let keyed : (noted ids k.slot).key ≡ key_of set = (rows i k r).keyed ∙ ap key_of g in
         elim (cases_Bool (is_state state k.active)) [
-          | inl y ↦ rw (y, eq-eqb k.key (key_of set) keyed) refl
+          | inl y ↦ rw (y, eq-eqb (noted ids k.slot).key (key_of set) keyed) refl
           | inr n ↦ absurd (both_ways _ (let z : false ≡ true = rw n at f in sym z) refl)
         ]
 
 -- ---- The changes
 
-switched : (b : Bool) (es es' : List (ℕ × Kept)) (id : ℕ) (k : Kept) → row es id ≡ Some k
+switched : (b : Bool) (es es' : Table) (id : ℕ) (k : Kept) → row es id ≡ Some k
     → ((q : ℕ) → row es' q ≡ cond (nat_eq id q) (option_map (with_state b) (row es q)) (row es q))
     → (q : ℕ) → row es' q ≡ cond (nat_eq id q) (Some (with_state b k)) (row es q)
 switched b es es' id k here rows q = rows q ∙ elim (cases_Bool (nat_eq id q)) [
@@ -385,43 +428,43 @@ switched b es es' id k here rows q = rows q ∙ elim (cases_Bool (nat_eq id q)) 
   | inr n ↦ rw n refl
 ]
 
-others_of : (es es' : List (ℕ × Kept)) (id : ℕ) (o : Option Kept) → ((q : ℕ) → row es' q ≡ cond (nat_eq id q) o (row es q)) → (q : ℕ) → nat_eq id q ≡ false → row es' q ≡ row es q
+others_of : (es es' : Table) (id : ℕ) (o : Option Kept) → ((q : ℕ) → row es' q ≡ cond (nat_eq id q) o (row es q)) → (q : ℕ) → nat_eq id q ≡ false → row es' q ≡ row es q
 others_of es es' id o rows q n = rows q ∙ ap (λ b. cond b o (row es q)) n
 
-here_of : (es es' : List (ℕ × Kept)) (id : ℕ) (o : Option Kept) → ((q : ℕ) → row es' q ≡ cond (nat_eq id q) o (row es q)) → row es' id ≡ o
+here_of : (es es' : Table) (id : ℕ) (o : Option Kept) → ((q : ℕ) → row es' q ≡ cond (nat_eq id q) o (row es q)) → row es' id ≡ o
 here_of es es' id o rows = rows id ∙ ap (λ b. cond b o (row es id)) (eq-eqb id id refl)
 
 -- what is known when a row is entered
-pub record Adds (p : Entries) (es es' : List (ℕ × Kept)) (a a' w : BTreeSet (ℕ × ℕ)) (ids : List ℕ) (id key s : ℕ) (ls : List ℕ) : Type 0 where
+pub record Adds (p : Entries) (es es' : Table) (a a' w : Pairs) (ids : List Noted) (id key s : ℕ) (ls : List ℕ) : Type 0 where
   pub inside : IsInside p es a w ids
   pub dead : get p s ≡ None
-  pub listed : IsListed ids s id
+  pub listed : (s < length ids) × (noted ids s ≡ record { id = id; key = key })
   pub free : row es id ≡ None
   pub keyed : key ≡ key_of (set_of ls)
-  pub rows : (q : ℕ) → row es' q ≡ cond (nat_eq id q) (Some (record { slot = s; key = key; active = true })) (row es q)
+  pub rows : (q : ℕ) → row es' q ≡ cond (nat_eq id q) (Some (record { slot = s; active = true })) (row es q)
   pub pairs : (k i : ℕ) → has_pair a' k i ≡ ((nat_eq key k && nat_eq id i) || has_pair a k i)
 
-module _ (p : Entries) (es es' : List (ℕ × Kept)) (a a' w : BTreeSet (ℕ × ℕ)) (ids : List ℕ) (id key s : ℕ) (ls : List ℕ) (h : Adds p es es' a a' w ids id key s ls) where
+module _ (p : Entries) (es es' : Table) (a a' w : Pairs) (ids : List Noted) (id key s : ℕ) (ls : List ℕ) (h : Adds p es es' a a' w ids id key s ls) where
   entries-added : (q : ℕ) (r : Kept) → nat_eq id q ≡ false → row es q ≡ Some r → get (insert p s (new_entry (firsts ls))) r.slot ≡ get p r.slot
   entries-added q r n e = get_insert_other p s r.slot (new_entry (firsts ls)) (slot_dead p es ids s q r h.inside.rows h.dead e)
 
   pub store-added : store_of (insert p s (new_entry (firsts ls))) es' ≡ insert (store_of p es) id (new_clause ls s)
   store-added =
-      let k : Kept = record { slot = s; key = key; active = true } in
+      let k : Kept = record { slot = s; active = true } in
       let e : get (insert p s (new_entry (firsts ls))) s ≡ Some (new_entry (firsts ls)) = get_insert_same p s (new_entry (firsts ls)) in
       store_put p (insert p s (new_entry (firsts ls))) es es' id k (new_clause ls s) h.rows entries-added
       (ap (λ o. held_of o k) e ∙ (λ i. active_clause (set_of-firsts ls i) (firsts ls) s))
 
   pub inside-added : IsInside (insert p s (new_entry (firsts ls))) es' a' w ids
   inside-added =
-      let k : Kept = record { slot = s; key = key; active = true } in
+      let k : Kept = record { slot = s; active = true } in
       let e : get (insert p s (new_entry (firsts ls))) s ≡ Some (new_entry (firsts ls)) = get_insert_same p s (new_entry (firsts ls)) in
-      let r : IsRow (Some (new_entry (firsts ls))) ids id k = record { live = refl; listed = h.listed; once = once-firsts ls [] tt; keyed = h.keyed ∙ ap key_of (sym (set_of-firsts ls)) } in
+      let r : IsRow (Some (new_entry (firsts ls))) ids id k = record { live = refl; listed = (h.listed.0, ap (λ z. z.id) h.listed.1); once = once-firsts ls [] tt; keyed = ap (λ z. z.key) h.listed.1 ∙ h.keyed ∙ ap key_of (sym (set_of-firsts ls)) } in
       record {
         rows = rows_put p (insert p s (new_entry (firsts ls))) es es' ids id k h.rows entries-added (subst (λ o. IsRow o ids id k) (sym e) r) h.inside.rows;
-        active_index = index_put true a a' es es' key id k h.inside.active_index h.pairs h.rows refl refl (λ c. ap (stands true c) h.free);
-        weakened_index = index_kept false w es es' id h.inside.weakened_index
-            (λ c. ap (stands false c) (here_of es es' id (Some k) h.rows) ∙ and_false (nat_eq key c) ∙ sym (ap (stands false c) h.free)) (others_of es es' id (Some k) h.rows);
+        active_index = index_put ids true a a' es es' key id k h.inside.active_index h.pairs h.rows (ap (λ z. z.key) h.listed.1) refl (λ c. ap (stands ids true c) h.free);
+        weakened_index = index_kept ids false w es es' id h.inside.weakened_index
+            (λ c. ap (stands ids false c) (here_of es es' id (Some k) h.rows) ∙ and_false (nat_eq (noted ids s).key c) ∙ sym (ap (stands ids false c) h.free)) (others_of es es' id (Some k) h.rows);
       }
     where
       and_false : (b : Bool) → (b && false) ≡ false
@@ -433,14 +476,15 @@ module _ (p : Entries) (es es' : List (ℕ × Kept)) (a a' w : BTreeSet (ℕ × 
       let f = found true (row es q) s (sym (slot_at-row p es q) ∙ e) in slot_dead p es ids s q f.k h.inside.rows h.dead f.is f.slot
 
 -- what is known when an active row leaves
-pub record Cuts (p : Entries) (es es' : List (ℕ × Kept)) (a a' w : BTreeSet (ℕ × ℕ)) (ids : List ℕ) (id : ℕ) (k : Kept) : Type 0 where
+pub record Cuts (p : Entries) (es es' : Table) (a a' w : Pairs) (ids : List Noted) (id key : ℕ) (k : Kept) : Type 0 where
   pub inside : IsInside p es a w ids
   pub here : row es id ≡ Some k
   pub on : k.active ≡ true
+  pub keyed : (noted ids k.slot).key ≡ key
   pub rows : (q : ℕ) → row es' q ≡ cond (nat_eq id q) None (row es q)
-  pub pairs : (c i : ℕ) → has_pair a' c i ≡ (not (nat_eq k.key c && nat_eq id i) && has_pair a c i)
+  pub pairs : (c i : ℕ) → has_pair a' c i ≡ (not (nat_eq key c && nat_eq id i) && has_pair a c i)
 
-module _ (p : Entries) (es es' : List (ℕ × Kept)) (a a' w : BTreeSet (ℕ × ℕ)) (ids : List ℕ) (id : ℕ) (k : Kept) (h : Cuts p es es' a a' w ids id k) where
+module _ (p : Entries) (es es' : Table) (a a' w : Pairs) (ids : List Noted) (id key : ℕ) (k : Kept) (h : Cuts p es es' a a' w ids id key k) where
   entries-cut : (q : ℕ) (r : Kept) → nat_eq id q ≡ false → row es q ≡ Some r → get (remove p k.slot) r.slot ≡ get p r.slot
   entries-cut q r n e = get_remove_other p k.slot r.slot (slots_differ p es ids q id r k h.inside.rows n e h.here)
 
@@ -450,9 +494,9 @@ module _ (p : Entries) (es es' : List (ℕ × Kept)) (a a' w : BTreeSet (ℕ × 
   pub inside-cut : IsInside (remove p k.slot) es' a' w ids
   inside-cut = record {
     rows = rows_cut p (remove p k.slot) es es' ids id h.rows entries-cut h.inside.rows;
-    active_index = index_cut true a a' es es' id k h.inside.active_index h.here h.pairs (λ c. ap (stands true c) (here_of es es' id None h.rows)) (others_of es es' id None h.rows);
-    weakened_index = index_kept false w es es' id h.inside.weakened_index
-        (λ c. ap (stands false c) (here_of es es' id None h.rows) ∙ sym (ap (stands false c) h.here ∙ ap (λ b. nat_eq k.key c && is_state false b) h.on ∙ and_false (nat_eq k.key c))) (others_of es es' id None h.rows);
+    active_index = index_cut ids true a a' es es' key id k h.inside.active_index h.here h.keyed h.pairs (λ c. ap (stands ids true c) (here_of es es' id None h.rows)) (others_of es es' id None h.rows);
+    weakened_index = index_kept ids false w es es' id h.inside.weakened_index
+        (λ c. ap (stands ids false c) (here_of es es' id None h.rows) ∙ sym (ap (stands ids false c) h.here ∙ ap (λ b. nat_eq (noted ids k.slot).key c && is_state false b) h.on ∙ and_false (nat_eq (noted ids k.slot).key c))) (others_of es es' id None h.rows);
   }
     where
       and_false : (b : Bool) → (b && false) ≡ false
@@ -460,15 +504,16 @@ module _ (p : Entries) (es es' : List (ℕ × Kept)) (a a' w : BTreeSet (ℕ × 
       and_false false = refl
 
 -- what is known when a row goes from one state to the other
-pub record Switches (p : Entries) (es es' : List (ℕ × Kept)) (from from' to to' : BTreeSet (ℕ × ℕ)) (ids : List ℕ) (id : ℕ) (k : Kept) (b : Bool) : Type 0 where
+pub record Switches (p : Entries) (es es' : Table) (from from' to to' : Pairs) (ids : List Noted) (id key : ℕ) (k : Kept) (b : Bool) : Type 0 where
   pub all : AreRows p ids es
-  pub from_index : IsIndex (not b) from es
-  pub to_index : IsIndex b to es
+  pub from_index : IsIndex ids (not b) from es
+  pub to_index : IsIndex ids b to es
   pub here : row es id ≡ Some k
+  pub keyed : (noted ids k.slot).key ≡ key
   pub off : k.active ≡ not b
   pub rows : (q : ℕ) → row es' q ≡ cond (nat_eq id q) (option_map (with_state b) (row es q)) (row es q)
-  pub cut : (c i : ℕ) → has_pair from' c i ≡ (not (nat_eq k.key c && nat_eq id i) && has_pair from c i)
-  pub put : (c i : ℕ) → has_pair to' c i ≡ ((nat_eq k.key c && nat_eq id i) || has_pair to c i)
+  pub cut : (c i : ℕ) → has_pair from' c i ≡ (not (nat_eq key c && nat_eq id i) && has_pair from c i)
+  pub put : (c i : ℕ) → has_pair to' c i ≡ ((nat_eq key c && nat_eq id i) || has_pair to c i)
 
 is_state-itself : (b : Bool) → is_state b b ≡ true
 is_state-itself true = refl
@@ -486,7 +531,7 @@ and_none : (a b : Bool) → b ≡ false → (a && b) ≡ false
 and_none true b e = e
 and_none false b e = refl
 
-module _ (p p' : Entries) (es es' : List (ℕ × Kept)) (from from' to to' : BTreeSet (ℕ × ℕ)) (ids : List ℕ) (id : ℕ) (k : Kept) (b : Bool) (h : Switches p es es' from from' to to' ids id k b)
+module _ (p p' : Entries) (es es' : Table) (from from' to to' : Pairs) (ids : List Noted) (id key : ℕ) (k : Kept) (b : Bool) (h : Switches p es es' from from' to to' ids id key k b)
     (entries : (t : ℕ) → t ≢ k.slot → get p' t ≡ get p t) (e : Entry) (here : get p' k.slot ≡ Some e) (lits : e.lits ≡ (entry_of (get p k.slot)).lits) where
   entries-switched : (q : ℕ) (r : Kept) → nat_eq id q ≡ false → row es q ≡ Some r → get p' r.slot ≡ get p r.slot
   entries-switched q r n f = entries r.slot (slots_differ p es ids q id r k h.all n f h.here)
@@ -503,31 +548,35 @@ module _ (p p' : Entries) (es es' : List (ℕ × Kept)) (from from' to to' : BTr
       let n : IsRow (Some e) ids id (with_state b k) = record { live = refl; listed = r.listed; once = subst IsOnce (sym lits) r.once; keyed = r.keyed ∙ ap (λ z. key_of (set_of z)) (sym lits) } in
       rows_put p p' es es' ids id (with_state b k) rows-switched entries-switched (subst (λ o. IsRow o ids id (with_state b k)) (sym here) n) h.all
 
-  pub to-switched : IsIndex b to' es'
-  to-switched = index_put b to to' es es' k.key id (with_state b k) h.to_index h.put rows-switched refl (is_state-itself b)
-      (λ c. ap (stands b c) h.here ∙ and_none (nat_eq k.key c) (is_state b k.active) (ap (is_state b) h.off ∙ is_state-other b))
+  pub to-switched : IsIndex ids b to' es'
+  to-switched = index_put ids b to to' es es' key id (with_state b k) h.to_index h.put rows-switched h.keyed (is_state-itself b)
+      (λ c. ap (stands ids b c) h.here ∙ and_none (nat_eq (noted ids k.slot).key c) (is_state b k.active) (ap (is_state b) h.off ∙ is_state-other b))
 
-  pub from-switched : IsIndex (not b) from' es'
-  from-switched = index_cut (not b) from from' es es' id k h.from_index h.here h.cut
-      (λ c. ap (stands (not b) c) (here_of es es' id (Some (with_state b k)) rows-switched) ∙ and_none (nat_eq k.key c) (is_state (not b) b) (is_state-back b)) (others_of es es' id (Some (with_state b k)) rows-switched)
+  pub from-switched : IsIndex ids (not b) from' es'
+  from-switched = index_cut ids (not b) from from' es es' key id k h.from_index h.here h.keyed h.cut
+      (λ c. ap (stands ids (not b) c) (here_of es es' id (Some (with_state b k)) rows-switched) ∙ and_none (nat_eq (noted ids k.slot).key c) (is_state (not b) b) (is_state-back b)) (others_of es es' id (Some (with_state b k)) rows-switched)
 
 -- ---- At a slot
 
-pub listed_at : (p : Entries) (es : List (ℕ × Kept)) (ids : List ℕ) (m : Store) (id s : ℕ) → store_of p es ≡ m → AreRows p ids es → slot_at m id ≡ Some s → IsListed ids s id
+pub listed_at : (p : Entries) (es : Table) (ids : List Noted) (m : Store) (id s : ℕ) → store_of p es ≡ m → AreRows p ids es → slot_at m id ≡ Some s → IsListed ids s id
 listed_at p es ids m id s v h e =
     let f = found true (row es id) s (sym (slot_at-row p es id) ∙ ap (λ z. slot_at z id) v ∙ e) in
     subst (λ z. IsListed ids z id) f.slot (h id f.k f.is).listed
 
-pub live_at : (p : Entries) (es : List (ℕ × Kept)) (ids : List ℕ) (m : Store) (id s : ℕ) → store_of p es ≡ m → AreRows p ids es → slot_at m id ≡ Some s → is_some (get p s) ≡ true
+-- the slot of a row in a state is noted
+pub within_noted : (state : Bool) (p : Entries) (es : Table) (ids : List Noted) (id s : ℕ) → AreRows p ids es → row_slot state (row es id) ≡ Some s → s < length ids
+within_noted state p es ids id s h e = let f = found state (row es id) s e in subst (λ z. z < length ids) f.slot (h id f.k f.is).listed.0
+
+pub live_at : (p : Entries) (es : Table) (ids : List Noted) (m : Store) (id s : ℕ) → store_of p es ≡ m → AreRows p ids es → slot_at m id ≡ Some s → is_some (get p s) ≡ true
 live_at p es ids m id s v h e =
     let f = found true (row es id) s (sym (slot_at-row p es id) ∙ ap (λ z. slot_at z id) v ∙ e) in
     subst (λ z. is_some (get p z) ≡ true) f.slot (h id f.k f.is).live
 
 -- ---- The least id of a set
 
-module _ (p : Entries) (es : List (ℕ × Kept)) (a w : BTreeSet (ℕ × ℕ)) (ids : List ℕ) (m : Store) (set : List ℕ) (v : store_of p es ≡ m) (h : IsInside p es a w ids) where
+module _ (p : Entries) (es : Table) (a w : Pairs) (ids : List Noted) (m : Store) (set : List ℕ) (v : store_of p es ≡ m) (h : IsInside p es a w ids) where
   pub active_at : (i : ℕ) → has_pair a (key_of set) i ≡ true → literals_in p es i ≡ Some set → IsActiveWith m set i
-  active_at i g e = let r = index_at true p es a set i h.active_index g e in
+  active_at i g e = let r = index_at ids true p es a set i h.active_index g e in
       subst (λ z. IsActiveWith z set i) v (ap is_some (slot_at-row p es i) ∙ r.0, r.1)
 
   pub active_from : (i : ℕ) → IsActiveWith m set i → (has_pair a (key_of set) i ≡ true) × (literals_in p es i ≡ Some set)
@@ -535,7 +584,7 @@ module _ (p : Entries) (es : List (ℕ × Kept)) (a w : BTreeSet (ℕ × ℕ)) (
       index_from true p es ids a set i h.rows h.active_index (sym (ap is_some (slot_at-row p es i)) ∙ q.0) q.1
 
   pub weakened_at : (i : ℕ) → has_pair w (key_of set) i ≡ true → literals_in p es i ≡ Some set → IsWeakenedWith m set i
-  weakened_at i g e = let r = index_at false p es w set i h.weakened_index g e in
+  weakened_at i g e = let r = index_at ids false p es w set i h.weakened_index g e in
       subst (λ z. IsWeakenedWith z set i) v (weakened-row p es i ∙ r.0, r.1)
 
   pub weakened_from : (i : ℕ) → IsWeakenedWith m set i → (has_pair w (key_of set) i ≡ true) × (literals_in p es i ≡ Some set)
@@ -566,7 +615,7 @@ live_added p p' s e h = ap (λ z. is_some (get z s)) h ∙ ap is_some (get_inser
 pub freed_again : (p q r : Entries) (s : ℕ) (e : Entry) → get p s ≡ None → q ≡ insert p s e → r ≡ remove q s → p ≡ r
 freed_again p q r s e dead f g = sym (g ∙ ap (λ z. remove z s) f ∙ freed p s e dead)
 
-pub free_row : (es : List (ℕ × Kept)) (q : ℕ) → is_some (row es q) ≡ false → row es q ≡ None
+pub free_row : (es : Table) (q : ℕ) → is_some (row es q) ≡ false → row es q ≡ None
 free_row es q = by_row (row es q)
   where
     by_row : (o : Option Kept) → is_some o ≡ false → o ≡ None
@@ -575,7 +624,7 @@ free_row es q = by_row (row es q)
 
 -- ---- A row's entry
 
-pub entry_live : (p : Entries) (es : List (ℕ × Kept)) (ids : List ℕ) (id : ℕ) (k : Kept) → AreRows p ids es → row es id ≡ Some k → (e : Entry) × (get p k.slot ≡ Some e)
+pub entry_live : (p : Entries) (es : Table) (ids : List Noted) (id : ℕ) (k : Kept) → AreRows p ids es → row es id ≡ Some k → (e : Entry) × (get p k.slot ≡ Some e)
 entry_live p es ids id k h r = of (get p k.slot) (h id k r).live
   where
     of : (o : Option Entry) → is_some o ≡ true → (e : Entry) × (o ≡ Some e)
@@ -583,7 +632,7 @@ entry_live p es ids id k h r = of (get p k.slot) (h id k r).live
     of (Some e) f = (e, refl)
 
 -- the literal set of a row
-pub literals_here : (p : Entries) (es : List (ℕ × Kept)) (m : Store) (id : ℕ) (k : Kept) (e : Entry) → store_of p es ≡ m → row es id ≡ Some k → get p k.slot ≡ Some e → set_of e.lits ≡ literals_at m id
+pub literals_here : (p : Entries) (es : Table) (m : Store) (id : ℕ) (k : Kept) (e : Entry) → store_of p es ≡ m → row es id ≡ Some k → get p k.slot ≡ Some e → set_of e.lits ≡ literals_at m id
 literals_here p es m id k e v r g =
     ap (λ o. set_of (entry_of o).lits) (sym g) ∙ sym (ap (λ o. unwrap_or (option_map (λ k. set_of (entry_of (get p k.slot)).lits) o) []) r) ∙ sym (literals_at-row p es id) ∙ ap (λ z. literals_at z id) v
 
@@ -602,7 +651,7 @@ unlinked_at p s e g =
     get_insert_same (with_link p s which.One None) s _ ∙ ap (λ z. Some (record { lits = z.lits; one = z.one; two = None })) first
 
 -- a slot of a weakened row is no active clause's
-pub is_fresh : (p : Entries) (es : List (ℕ × Kept)) (ids : List ℕ) (id : ℕ) (k : Kept) → AreRows p ids es → row es id ≡ Some k → is_state false k.active ≡ true → IsFresh (store_of p es) k.slot
+pub is_fresh : (p : Entries) (es : Table) (ids : List Noted) (id : ℕ) (k : Kept) → AreRows p ids es → row es id ≡ Some k → is_state false k.active ≡ true → IsFresh (store_of p es) k.slot
 is_fresh p es ids id k h r off q e =
     let f = found true (row es q) k.slot (sym (slot_at-row p es q) ∙ e) in
     elim (cases_Bool (nat_eq id q)) [
@@ -611,7 +660,7 @@ is_fresh p es ids id k h r off q e =
       | inr n ↦ slots_differ p es ids q id f.k k h n f.is r f.slot
     ]
 
-pub restored : (p : Entries) (es : List (ℕ × Kept)) (ids : List ℕ) (m : Store) (id : ℕ) (k : Kept) (e : Entry) → store_of p es ≡ m → AreRows p ids es → row es id ≡ Some k → is_state false k.active ≡ true → get p k.slot ≡ Some e
+pub restored : (p : Entries) (es : Table) (ids : List Noted) (m : Store) (id : ℕ) (k : Kept) (e : Entry) → store_of p es ≡ m → AreRows p ids es → row es id ≡ Some k → is_state false k.active ≡ true → get p k.slot ≡ Some e
     → (n : Store) → ((c : Held) → held_of (Some (record { lits = e.lits; one = None; two = None })) (with_state true k) ≡ c → n ≡ insert (store_of p es) id c) → IsRestored m id n
 restored p es ids m id k e v h r off g n change =
     let set : set_of e.lits ≡ literals_at m id = literals_here p es m id k e v r g in

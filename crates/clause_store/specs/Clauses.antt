@@ -1,5 +1,5 @@
 -- What callers see of a store: a finite map from ids to clauses.
-use Rattle.std.specs.Prelude.{◌≡◌, ◌≢◌, ℕ, Bool, not, false, ◌&&◌, List, [], ◌∷◌, Option, None, Some, ◌++◌, if◌then◌else◌, IsTrue, is_some, is_none, unwrap_or, option_and_then, option_map, swap, refl}
+use Rattle.std.specs.Prelude.{◌≡◌, ◌≢◌, ℕ, Bool, not, false, ◌&&◌, List, [], ◌∷◌, Option, None, Some, ◌++◌, if◌then◌else◌, IsTrue, is_some, unwrap_or, option_and_then, option_map, swap, refl}
 use Rattle.std.specs.Ordering.{nat_cmp}
 use Rattle.std.specs.FinMap as finmap
 use Rattle.std.specs.Coded.{Coded, code_by, coded×, coded_list, coded_option, coded_ℕ}

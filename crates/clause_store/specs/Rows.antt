@@ -1,14 +1,17 @@
 -- How the store's fields give the map.
-use Rattle.std.specs.Prelude.{◌≡◌, ◌≢◌, ℕ, ◌<◌, Bool, true, false, ◌&&◌, nat_eq, if◌then◌else◌, List, [], ◌∷◌, length, map, slice_index, Option, None, Some, is_some, unwrap_or, option_map, IsTrue}
+use Rattle.std.specs.Prelude.{◌≡◌, ◌≢◌, ℕ, ◌<◌, Bool, true, false, ◌&&◌, nat_eq, if◌then◌else◌, List, [], ◌∷◌, length, map, ◌++◌, suc, get_or, Option, None, Some, is_some, unwrap_or, option_map, IsTrue}
+use Rattle.std.specs.Option.{option_or}
 use Rattle.std.specs.FinMap.{from_entries, get}
-use Rattle.std.specs.Ordering.{nat_cmp}
 use Rattle.std.specs.Map.{lookup}
-use Rattle.std.specs.BTreeMap.{is_at}
-use Rattle.std.specs.BTreeSet.{BTreeSet}
 use Rattle.lits.specs.Clause.{set_of}
 use Rattle.lit_pool.specs.Entry.{Entry, Entries, new_entry}
-use Rattle.clause_store.specs.declared.rows.Kept.{Kept}
+use Rattle.clause_store.specs.declared.table.Kept.{Kept}
+use Rattle.clause_store.specs.declared.table.Cell.{Cell}
+use Rattle.clause_store.specs.declared.table.Cell.TheVariants.{Free, Active, Weakened}
+use Rattle.clause_store.specs.declared.rows.Noted.{Noted}
+use Rattle.clause_store.specs.declared.table.Table.{Table}
 use Rattle.clause_store.specs.Clauses.{Held, Place, Store, IsOnce}
+use Rattle.clause_store.specs.declared.index.Pairs.{Pairs}
 use Rattle.clause_store.specs.Index.{has_pair, key_of}
 
 -- an entry, or the empty one
@@ -23,16 +26,44 @@ place_of e s = record { slot = s; lits = e.lits; one = e.one; two = e.two }
 abbrev pub held_of : Option Entry → Kept → Held
 held_of o k = record { literals = set_of (entry_of o).lits; place = (if k.active then Some (place_of (entry_of o) k.slot) else None) }
 
+-- the row that a cell of the dense part has
+abbrev pub kept_of : Cell → Option Kept
+kept_of Free = None
+kept_of (Active s) = Some (record { slot = s; active = true })
+kept_of (Weakened s) = Some (record { slot = s; active = false })
+
+-- a row with its id
+abbrev pub row_if : ℕ → Option Kept → List (ℕ × Kept)
+row_if q None = []
+row_if q (Some k) = (q, k) ∷ []
+
+-- the rows of the dense part with their ids, which begin at q
+abbrev pub listed : ℕ → List Cell → List (ℕ × Kept)
+listed q [] = []
+listed q (c ∷ cs) = row_if q (kept_of c) ++ listed (suc q) cs
+
+-- the rows with their ids; at an id that stands twice the first counts
+abbrev pub entries : Table → List (ℕ × Kept)
+entries t = listed 0 t.dense.items ++ t.far.entries
+
 -- the rows as a map
-unfoldable pub store_of : Entries → List (ℕ × Kept) → Store
-store_of pool es = from_entries (map (λ e. (e.0, held_of (get pool e.1.slot) e.1)) es)
+unfoldable pub store_of : Entries → Table → Store
+store_of pool t = from_entries (map (λ e. (e.0, held_of (get pool e.1.slot) e.1)) (entries t))
+
+-- what the dense part has at an id
+abbrev pub dense_row : List Cell → ℕ → Option Kept
+dense_row cs q = kept_of (get_or cs q Free)
+
+-- what the far part has at an id
+abbrev pub far_row : List (ℕ × Kept) → ℕ → Option Kept
+far_row es q = lookup (nat_eq q) es
 
 -- the row of an id
-abbrev pub row : List (ℕ × Kept) → ℕ → Option Kept
-row es q = lookup (is_at (nat_cmp q)) es
+abbrev pub row : Table → ℕ → Option Kept
+row t q = option_or (dense_row t.dense.items q) (far_row t.far.entries q)
 
 -- the literal set of an id's row
-abbrev pub literals_in : Entries → List (ℕ × Kept) → ℕ → Option (List ℕ)
+abbrev pub literals_in : Entries → Table → ℕ → Option (List ℕ)
 literals_in pool es q = option_map (λ k. set_of (entry_of (get pool k.slot)).lits) (row es q)
 
 -- whether a flag is in a state
@@ -40,10 +71,14 @@ abbrev pub is_state : Bool → Bool → Bool
 is_state true b = b
 is_state false b = if b then false else true
 
+-- what is noted of a slot
+abbrev pub noted : List Noted → ℕ → Noted
+noted ids s = get_or ids s (record { id = 0; key = 0 })
+
 -- whether a row has this key and is in this state
-abbrev pub stands : Bool → ℕ → Option Kept → Bool
-stands state key None = false
-stands state key (Some k) = nat_eq k.key key && is_state state k.active
+abbrev pub stands : List Noted → Bool → ℕ → Option Kept → Bool
+stands ids state key None = false
+stands ids state key (Some k) = nat_eq (noted ids k.slot).key key && is_state state k.active
 
 -- the slot of a row in this state
 abbrev pub row_slot : Bool → Option Kept → Option ℕ
@@ -52,37 +87,37 @@ row_slot state (Some k) = if is_state state k.active then Some k.slot else None
 
 -- a row that is active, or isn't
 abbrev pub with_state : Bool → Kept → Kept
-with_state b k = record { slot = k.slot; key = k.key; active = b }
+with_state b k = record { slot = k.slot; active = b }
 
--- the table of ids has the id at a slot
-abbrev pub IsListed : List ℕ → ℕ → ℕ → Type 0
-IsListed ids s q = (s < length ids) × (slice_index ids s ≡ q)
+-- this id is noted of a slot
+abbrev pub IsListed : List Noted → ℕ → ℕ → Type 0
+IsListed ids s q = (s < length ids) × ((noted ids s).id ≡ q)
 
--- the table of ids is as it was but at this slot
-abbrev pub SameListed : List ℕ → List ℕ → ℕ → Type 0
-SameListed old new s = (t q : ℕ) → t ≢ s → IsListed old t q → IsListed new t q
+-- what is noted is as it was but at this slot
+abbrev pub SameListed : List Noted → List Noted → ℕ → Type 0
+SameListed old new s = (t : ℕ) → t ≢ s → t < length old → (t < length new) × (noted new t ≡ noted old t)
 
 -- what holds of a row of an id, with its entry in the pool
-pub record IsRow (o : Option Entry) (ids : List ℕ) (q : ℕ) (k : Kept) : Type 0 where
+pub record IsRow (o : Option Entry) (ids : List Noted) (q : ℕ) (k : Kept) : Type 0 where
   pub live : IsTrue (is_some o)
   pub listed : IsListed ids k.slot q
   pub once : IsOnce (entry_of o).lits
-  pub keyed : k.key ≡ key_of (set_of (entry_of o).lits)
+  pub keyed : (noted ids k.slot).key ≡ key_of (set_of (entry_of o).lits)
 
 -- each row has a live entry with each literal once
-abbrev pub ArePooled : Entries → List (ℕ × Kept) → Type 0
+abbrev pub ArePooled : Entries → Table → Type 0
 ArePooled pool es = (q : ℕ) (k : Kept) → row es q ≡ Some k → IsTrue (is_some (get pool k.slot)) × IsOnce (entry_of (get pool k.slot)).lits
 
 -- each row holds
-abbrev pub AreRows : Entries → List ℕ → List (ℕ × Kept) → Type 0
+abbrev pub AreRows : Entries → List Noted → Table → Type 0
 AreRows pool ids es = (q : ℕ) (k : Kept) → row es q ≡ Some k → IsRow (get pool k.slot) ids q k
 
 -- the index has the pairs of the rows in this state
-abbrev pub IsIndex : Bool → BTreeSet (ℕ × ℕ) → List (ℕ × Kept) → Type 0
-IsIndex state s es = (key q : ℕ) → has_pair s key q ≡ stands state key (row es q)
+abbrev pub IsIndex : List Noted → Bool → Pairs → Table → Type 0
+IsIndex ids state s es = (key q : ℕ) → has_pair s key q ≡ stands ids state key (row es q)
 
 -- what holds inside every store
-pub record IsInside (pool : Entries) (es : List (ℕ × Kept)) (active weakened : BTreeSet (ℕ × ℕ)) (ids : List ℕ) : Type 0 where
+pub record IsInside (pool : Entries) (es : Table) (active weakened : Pairs) (ids : List Noted) : Type 0 where
   pub rows : AreRows pool ids es
-  pub active_index : IsIndex true active es
-  pub weakened_index : IsIndex false weakened es
+  pub active_index : IsIndex ids true active es
+  pub weakened_index : IsIndex ids false weakened es

@@ -1,9 +1,10 @@
 //! Clauses by id, each active or weakened. The literals of a clause lie in a pool, each once, and the pool's slot is the
-//! name by which propagation speaks of an active clause. Ids are found through an ordered map. The ids of a literal set are
-//! found through ordered pairs of the set's key and an id, so the least id of a set is the first that is met.
+//! name by which propagation speaks of an active clause. An ordinary id is found by one read of a table, and one too large
+//! for the count of clauses through a map. The ids of a literal set are found by the set's key: one through a map, and the
+//! further ids of a key through ordered pairs of key and id.
 #![tactic(auto)]
 
-ghost use Rattle.std.specs.Prelude.{◌≡◌, ℕ, ◌<◌, ◌≤◌, List, length, OnOk, IfOk, IfErr, IfSome, IfNone, IsTrue, true, false, Some, None};
+ghost use Rattle.std.specs.Prelude.{◌≡◌, ℕ, ◌<◌, ◌≤◌, List, length, slice_index, OnOk, IfOk, IfErr, IfSome, IfNone, IsTrue, true, false, Some, None};
 ghost use Rattle.std.specs.FinMap as finmap;
 ghost use Rattle.clause_store.specs.Clauses.{slot_at, lits_at, is_active, is_weakened, is_held, IsSlot, IsFresh, IsActiveWith, IsWeakenedWith, IsRestored, literals_at, link_at, new_clause, weakened_clause, with_link, with_swap, IsStore};
 ghost use Rattle.clause_store.specs.declared.StoreFault.TheVariants as fault;
@@ -12,12 +13,12 @@ use lit_pool::Pool;
 pub use lit_pool::{Slot, Which};
 use lits::{Lit, LitSet};
 use std::alloc::Global;
-use std::collections::{BTreeMap, BTreeSet};
 use std::marker::Model;
 
 mod index;
 mod once;
 mod rows;
+mod table;
 
 /// Why the store refuses. A rule's refusal comes before want of memory.
 #[derive(Clone, Copy, PartialEq, Eq, Debug)]
@@ -37,10 +38,10 @@ pub enum StoreFault {
 #[derive(Drop)]
 pub struct Store {
     pool: Pool,
-    clauses: BTreeMap<u64, rows::Kept>,
-    active: BTreeSet<(u64, u64)>,
-    weakened: BTreeSet<(u64, u64)>,
-    ids: Vec<u64>,
+    clauses: table::Table,
+    active: index::Pairs,
+    weakened: index::Pairs,
+    noted: Vec<rows::Noted>,
     alloc: Global,
 }
 
@@ -56,9 +57,9 @@ impl Model for Store {
 
     ghost use Rattle.clause_store.specs.Rows.{store_of, IsInside};
 
-    ghost view = { λ s. store_of s.pool s.clauses.entries };
+    ghost view = { λ s. store_of s.pool s.clauses };
 
-    ghost invariant = { λ s. IsInside s.pool s.clauses.entries s.active s.weakened s.ids.items };
+    ghost invariant = { λ s. IsInside s.pool s.clauses s.active s.weakened s.noted.items };
 }
 
 impl Store {
@@ -68,10 +69,10 @@ impl Store {
     {
         Store {
             pool: Pool::new(alloc),
-            clauses: BTreeMap::new(alloc),
-            active: BTreeSet::new(alloc),
-            weakened: BTreeSet::new(alloc),
-            ids: Vec::new(alloc),
+            clauses: table::Table::new(alloc),
+            active: index::Pairs::new(alloc),
+            weakened: index::Pairs::new(alloc),
+            noted: Vec::new(alloc),
             alloc,
         }
     }
@@ -86,7 +87,7 @@ impl Store {
         ensures taken { IfErr result (λ e. IsTrue (is_held self.old id) → e ≡ fault.IdTaken) }
         ensures memory { IfErr result (λ e. is_held self.old id ≡ false → e ≡ fault.Memory) }
     {
-        if self.clauses.contains_key(&id) {
+        if self.clauses.contains_key(id) {
             return Err(StoreFault::IdTaken);
         }
         let Ok(set) = LitSet::of(self.alloc, lits) else {
@@ -96,11 +97,12 @@ impl Store {
         let Ok(slot) = once::add_once(self.alloc, &mut self.pool, set.len(), lits) else {
             return Err(StoreFault::Memory);
         };
-        if rows::note(&mut self.ids, slot, id).is_err() {
+        if rows::note(&mut self.noted, slot, id, key).is_err() {
             self.pool.free(slot);
             return Err(StoreFault::Memory);
         }
-        if rows::enter(&mut self.active, &mut self.clauses, id, key, slot).is_err() {
+        let limit = table::dense_limit(self.noted.len());
+        if rows::enter(&mut self.active, &mut self.clauses, id, key, slot, limit).is_err() {
             self.pool.free(slot);
             return Err(StoreFault::Memory);
         }
@@ -118,7 +120,8 @@ impl Store {
         let Some(slot) = rows::active_slot(&self.clauses, id) else {
             return Err(StoreFault::NotActive);
         };
-        rows::leave(&mut self.active, &mut self.clauses, id);
+        let key = rows::key_at(&self.noted, slot);
+        rows::leave(&mut self.active, &mut self.clauses, id, key);
         self.pool.free(slot);
         Ok(())
     }
@@ -132,14 +135,16 @@ impl Store {
         ensures inactive { IfErr result (λ e. is_active self.old id ≡ false → e ≡ fault.NotActive) }
         ensures memory { IfErr result (λ e. IsTrue (is_active self.old id) → e ≡ fault.Memory) }
     {
-        let Some(_slot) = rows::active_slot(&self.clauses, id) else {
+        let Some(slot) = rows::active_slot(&self.clauses, id) else {
             return Err(StoreFault::NotActive);
         };
+        let key = rows::key_at(&self.noted, slot);
         if rows::switch(
             &mut self.active,
             &mut self.weakened,
             &mut self.clauses,
             id,
+            key,
             false,
         )
         .is_err()
@@ -177,11 +182,13 @@ impl Store {
         if slot.number() >= end {
             return Err(StoreFault::Memory);
         }
+        let key = rows::key_at(&self.noted, slot);
         if rows::switch(
             &mut self.weakened,
             &mut self.active,
             &mut self.clauses,
             id,
+            key,
             true,
         )
         .is_err()
@@ -199,7 +206,7 @@ impl Store {
         ensures least { IfSome result (λ id. (x : ℕ) → IsActiveWith self.now set.now x → id ≤ x) }
         ensures none { IfNone result ((x : ℕ) → IsActiveWith self.now set.now x → ⊥) }
     {
-        index::least(&self.active, &self.clauses, &self.pool, set)
+        self.active.least(&self.clauses, &self.pool, set)
     }
 
     /// The least id of a weakened clause with this literal set; None exactly where there is none.
@@ -208,7 +215,7 @@ impl Store {
         ensures least { IfSome result (λ id. (x : ℕ) → IsWeakenedWith self.now set.now x → id ≤ x) }
         ensures none { IfNone result ((x : ℕ) → IsWeakenedWith self.now set.now x → ⊥) }
     {
-        index::least(&self.weakened, &self.clauses, &self.pool, set)
+        self.weakened.least(&self.clauses, &self.pool, set)
     }
 
     /// The slot of an active clause; None exactly where the id isn't active.
@@ -224,7 +231,7 @@ impl Store {
         requires { IsSlot self.now s }
         ensures { slot_at self.now result ≡ Some s }
     {
-        self.ids[s.number() as usize]
+        self.noted[s.number() as usize].id
     }
 
     /// The literals of the active clause at this slot, in the order of its list.
@@ -233,6 +240,14 @@ impl Store {
         ensures { (id : ℕ) → slot_at self.now id ≡ Some s → lits_at self.now id ≡ result.now }
     {
         self.pool.lits(s)
+    }
+
+    /// The first two literals of the list of the active clause at this slot, which has two or more.
+    pub fn pair(&self, s: Slot) -> (Lit, Lit)
+        requires { (id : ℕ) × (slot_at self.now id ≡ Some s) × (2 ≤ length (lits_at self.now id)) }
+        ensures { (id : ℕ) → slot_at self.now id ≡ Some s → (result.0 ≡ slice_index (lits_at self.now id) 0) × (result.1 ≡ slice_index (lits_at self.now id) 1) }
+    {
+        self.pool.pair(s)
     }
 
     /// Exchanges two places of the list of the active clause at this slot, counted from 0. Its set, its slot, its links and

@@ -74,6 +74,27 @@ fn copies_are_taken_one_by_one(rt: HostRuntime) -> Result<(), Fail> {
 }
 
 #[test]
+fn large_ids_are_ids(rt: HostRuntime) -> Result<(), Fail> {
+    let set = LitSet::of(rt.alloc(), &[lit(2), lit(-1)])?;
+    let mut store = Store::new(rt.alloc());
+    for id in [u64::MAX, 3, 1 << 40] {
+        assert_eq!(rt; call(&mut store, b'a', id), Ok(()));
+        assert_eq!(rt; call(&mut store, b'a', id), Err(StoreFault::IdTaken));
+    }
+    assert!(rt; store.find(1 << 41).is_none());
+    assert_eq!(rt; store.delete(3), Ok(()));
+    assert_eq!(rt; store.least_active(&set), Some(1 << 40));
+    assert_eq!(rt; store.weaken(1 << 40), Ok(()));
+    assert!(rt; store.find(1 << 40).is_none());
+    assert!(rt; store.find(u64::MAX).is_some());
+    assert_eq!(rt; store.delete(u64::MAX), Ok(()));
+    assert!(rt; store.find(u64::MAX).is_none());
+    assert_eq!(rt; store.restore(1 << 40), Ok(()));
+    assert_eq!(rt; store.least_active(&set), Some(1 << 40));
+    Ok(())
+}
+
+#[test]
 fn tautologies_and_the_empty_clause_are_clauses(rt: HostRuntime) -> Result<(), Fail> {
     let empty = LitSet::of(rt.alloc(), &[])?;
     let both = LitSet::of(rt.alloc(), &[lit(1), lit(-1)])?;

@@ -75,6 +75,13 @@ fn run(alloc: Global, store: &Store, start: &[Lit], hints: &[u64]) -> Result<Hin
     Ok(check.run(store, start, hints))
 }
 
+// The end of a run from one literal.
+fn run_from(alloc: Global, store: &Store, n: i64, hints: &[u64]) -> Result<HintEnd, AllocError>
+    requires { (k l : ℕ) (h : Held) → finmap.get store.now k ≡ Some h → Contains h.literals l → var l ≤ 9 }
+{
+    run(alloc, store, &[lit(n)], hints)
+}
+
 #[test]
 fn hints_are_taken_in_order(rt: HostRuntime) -> Result<(), Fail> {
     let store = three_clauses(rt.alloc()).ok_or("no memory")?;
@@ -97,7 +104,7 @@ fn a_weakened_clause_is_no_hint(rt: HostRuntime) -> Result<(), Fail> {
     let mut store = three_clauses(rt.alloc()).ok_or("no memory")?;
     assert!(rt; weaken(&mut store, 2));
     assert_eq!(rt;
-        run(rt.alloc(), &store, &[lit(-2)], &[1, 2, 3])?,
+        run_from(rt.alloc(), &store, -2, &[1, 2, 3])?,
         HintEnd::Fails { position: 2 }
     );
     Ok(())

@@ -1,5 +1,5 @@
 // The parts of lines: the letter, lists of literals and of ids, the line's own id, and the status.
-ghost use Rattle.std.specs.Prelude.{◌≡◌, ◌≤◌, IsErrOf};
+ghost use Rattle.std.specs.Prelude.{◌≡◌, ◌≤◌, [], IsErrOf};
 ghost use Rattle.outside.specs.Faults.{Rose};
 ghost use Rattle.session_rules.specs.declared.LineFault.{LineFault};
 ghost use Rattle.session_rules.specs.Reading.{literal_list, id_list, own_id, status_word};
@@ -12,7 +12,32 @@ use lits::Lits;
 use outside::Source;
 use session_rules::{Id, Ids, LineFault, StatusWord};
 use slice_tokens::Window;
-use std::alloc::Global;
+use std::alloc::{AllocError, Global};
+
+// How many literals, and how many ids, an empty list has room for: those of an ordinary line, so that its list needn't grow.
+const LITERALS: usize = 14;
+
+const IDS: usize = 15;
+
+// A list without a literal, with room for some where there is memory.
+fn empty_literals(alloc: Global) -> Lits
+    ensures { result ≡ [] }
+{
+    match Vec::with_capacity(alloc, LITERALS) {
+        Ok(items) => Lits::from_vec(items),
+        Err(AllocError) => Lits::new(alloc),
+    }
+}
+
+// A list without an id, with room for some where there is memory.
+fn empty_ids(alloc: Global) -> Ids
+    ensures { result ≡ [] }
+{
+    match Vec::with_capacity(alloc, IDS) {
+        Ok(items) => Ids::from_vec(items),
+        Err(AllocError) => Ids::new(alloc),
+    }
+}
 
 /// Literals up to the 0 that ends their list.
 pub fn read_literals<S: Source>(
@@ -26,7 +51,7 @@ pub fn read_literals<S: Source>(
     ensures count { S.faults src.old ≤ S.faults src.new }
     ensures read { IsErrOf result LineFault.Read → Rose (S.faults src.old) (S.faults src.new) }
 {
-    let mut lits = Lits::new(alloc);
+    let mut lits = empty_literals(alloc);
     'literals: loop {
         match next_word::<S, LiteralWords>(window, src) {
             Ok(Some(l)) => {
@@ -52,7 +77,7 @@ pub fn read_ids<S: Source>(
     ensures count { S.faults src.old ≤ S.faults src.new }
     ensures read { IsErrOf result LineFault.Read → Rose (S.faults src.old) (S.faults src.new) }
 {
-    let mut ids = Ids::new(alloc);
+    let mut ids = empty_ids(alloc);
     'ids: loop {
         match next_word::<S, IdWords>(window, src) {
             Ok(Some(id)) => {

@@ -11,7 +11,7 @@ use base.Fml.{Fml, Lft, feq, fsep, fat, froom}
 use mir.Syntax.{ty_array}
 use mir.Val.{Val, vstruct, vcons, vnil}
 use types.Logic.{Logic, sem}
-use types.Kit.{‵, ◌⊛◌, some, given, ◌$◌, ◌∵◌, !, qed, by, move, keep, drop, use1, use2, split, pick, learn, rewrite, fsplit, fjoin, fpack, feq_l, feq_i, show, done}
+use types.Kit.{‵, ◌⊛◌, some, ◌$◌, ◌∵◌, !, qed, by, move, keep, drop, use1, use2, split, pick, rewrite, fsplit, fjoin, fpack, feq_l, feq_i, show, done}
 use borrow.Table.OneValue.{part_in, part_out}
 use denote.Array.{Array}
 use denote.ArrayMemory.{Array-apart, Array-whole}
@@ -21,7 +21,7 @@ use denote.RattleType.{RattleType, RowLaws, Valss}
 use denote.Laws.{Is}
 use denote.Steps.{nothing, owned}
 use denote.Builtin.{usize}
-use denote.Memory.{hidden_shr, part_at, shares, lone}
+use denote.Memory.{hidden_shr, part_at, shares}
 use denote.Opens.{shr_dup, unhide, hide}
 use denote.Plain.{uint_row_laws}
 use denote.RawPtr.{RawPtr, ptr_row_laws}

@@ -1,13 +1,12 @@
 -- What the parts of a block own and lend.
-use Rattle.std.specs.Prelude.{ℕ, ◌*◌, ◌^◌, ◌<◌, List}
+use Rattle.std.specs.Prelude.{ℕ, List}
 use base.Fraction.{full_share}
-use base.Fml.{Fml, Lft, ftrue, fsep}
+use base.Fml.{Fml, Lft}
 use mir.Syntax.{Ty, ty_array}
 use mir.Raw.{raw}
 use denote.Memory.{lone}
 use denote.Array.{Array}
-use denote.RawPtr.{Ptr, lies_at, room_for, in_block}
-use denote.Sharing.{said}
+use denote.RawPtr.{Ptr, lies_at, room_for}
 use denote.Struct.Lending.{lent_at}
 use Rattle.lits.specs.contracts.Lit.{the_row as Lit}
 

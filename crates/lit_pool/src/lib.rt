@@ -3,7 +3,7 @@
 //! says in one equation what becomes of one entry and that all others stay.
 #![tactic(auto)]
 
-ghost use Rattle.std.specs.Prelude.{◌≡◌, ◌+◌, ◌*◌, ◌^◌, ◌<◌, ◌≤◌, [], ◌∷◌, length, swap, IfOk, IfSome, IfNone, OnErr, IsTrue, ◌↔◌, Some, None};
+ghost use Rattle.std.specs.Prelude.{◌≡◌, ◌+◌, ◌*◌, ◌^◌, ◌<◌, ◌≤◌, [], ◌∷◌, length, swap, slice_index, IfOk, IfSome, IfNone, OnErr, IsTrue, ◌↔◌, Some, None};
 ghost use Rattle.std.specs.FinMap as map;
 ghost use Rattle.lit_pool.specs.Entry.{IsLive, lits_at, link_at, new_entry, with_swap, with_link};
 
@@ -133,6 +133,15 @@ impl Pool {
         ensures { result.now ≡ lits_at self.now s }
     {
         self.rows[s.number as usize].lits()
+    }
+
+    /// The first two literals of a live entry, which has two or more.
+    pub fn pair(&self, s: Slot) -> (Lit, Lit)
+        requires live { IsLive self.now s }
+        requires two { 2 ≤ length (lits_at self.now s) }
+        ensures { (result.0 ≡ slice_index (lits_at self.now s) 0) × (result.1 ≡ slice_index (lits_at self.now s) 1) }
+    {
+        self.rows[s.number as usize].pair()
     }
 
     /// Exchanges two places of a live entry's list, counted from 0. All else stays.

@@ -52,6 +52,14 @@ impl Plain {
         }
     }
 
+    pub(crate) fn pair(&self, number: usize) -> Option<(Lit, Lit)> {
+        let lits = self.lits(number);
+        if lits.len() < 2 {
+            return None;
+        }
+        Some((lits[0], lits[1]))
+    }
+
     pub(crate) fn swap(&mut self, number: usize, a: usize, b: usize) {
         if number >= self.rows.len() {
             return;

@@ -1,7 +1,8 @@
-//! The rows of a pool. A row keeps a block of its own for the literals, and the links beside it, so a walk along links
-//! reads one row and one block for each entry. When its entry is freed it keeps the block for a later one.
-ghost use Rattle.std.specs.Prelude.{◌≡◌, ◌^◌, ◌<◌, ◌≤◌, length, take, swap, true, false, Some, None, IfOk, IsTrue, ◌↔◌};
-ghost use Rattle.lit_pool.specs.Link.{link_if};
+//! The rows of a pool. A row keeps a block of its own for the literals, and the links and the first two literals beside it,
+//! so a walk along links that asks for no later literal reads one row for each entry and no block. When its entry is freed
+//! it keeps the block for a later one.
+ghost use Rattle.std.specs.Prelude.{◌≡◌, ◌^◌, ◌<◌, ◌≤◌, length, take, swap, slice_index, slice_set, true, false, Some, None, IfOk, IsTrue, ◌↔◌};
+ghost use Rattle.lit_pool.specs.Link.{link_if, AreFirst};
 ghost use Rattle.lit_pool.specs.Entry.{new_entry, link_of, relinked};
 
 use crate::block::{Block, Lease, Room};
@@ -34,6 +35,9 @@ pub(crate) struct Row {
     held: Held,
     // The literals are the block's first `len`.
     len: u32,
+    // Copies of the first two literals, where there are so many.
+    first: Lit,
+    second: Lit,
     // The numbers of the links, which count where `has_one` and `has_two` say so.
     one: u32,
     two: u32,
@@ -41,6 +45,7 @@ pub(crate) struct Row {
     has_two: bool,
     live: bool,
     ghost fits: { len ≤ length held.block.items },
+    ghost copies: { AreFirst (take len held.block.items) first second },
 }
 
 /// A link in two words: whether there is one, and its number.
@@ -94,6 +99,8 @@ impl Row {
                 let mut row = Row {
                     held,
                     len: 0,
+                    first: Lit::default(),
+                    second: Lit::default(),
                     one: 0,
                     two: 0,
                     has_one: false,
@@ -121,6 +128,12 @@ impl Row {
     {
         write(&mut self.held.block, lits);
         self.len = lits.len() as u32;
+        if lits.len() > 0 {
+            self.first = lits[0];
+        }
+        if lits.len() > 1 {
+            self.second = lits[1];
+        }
         self.has_one = false;
         self.has_two = false;
         self.live = true;
@@ -156,6 +169,29 @@ impl Row {
         &self.held.block.lits()[..self.len as usize]
     }
 
+    /// The first two literals of two or more.
+    pub(crate) fn pair(&self) -> (Lit, Lit)
+        requires { 2 ≤ length (entry_of self.now).lits }
+        ensures { (result.0 ≡ slice_index (entry_of self.now).lits 0) × (result.1 ≡ slice_index (entry_of self.now).lits 1) }
+    {
+        (self.first, self.second)
+    }
+
+    /// Puts `x` at a literal's place.
+    fn put(&mut self, i: usize, x: Lit)
+        requires { i < length (entry_of self.old).lits }
+        ensures live { self.new.live ≡ self.old.live }
+        ensures lits { (entry_of self.new).lits ≡ slice_set (entry_of self.old).lits i x }
+        ensures links { ((entry_of self.new).one ≡ (entry_of self.old).one) × ((entry_of self.new).two ≡ (entry_of self.old).two) }
+    {
+        self.held.block.put(i, x);
+        match i {
+            0 => self.first = x,
+            1 => self.second = x,
+            _ => {}
+        }
+    }
+
     /// Exchanges two literals.
     pub(crate) fn swap(&mut self, a: usize, b: usize)
         requires a_in_bounds { a < length (entry_of self.old).lits }
@@ -164,10 +200,10 @@ impl Row {
         ensures lits { (entry_of self.new).lits ≡ swap (entry_of self.old).lits a b }
         ensures links { ((entry_of self.new).one ≡ (entry_of self.old).one) × ((entry_of self.new).two ≡ (entry_of self.old).two) }
     {
-        let x = self.held.block.lits()[a];
-        let y = self.held.block.lits()[b];
-        self.held.block.put(a, y);
-        self.held.block.put(b, x);
+        let x = self.lits()[a];
+        let y = self.lits()[b];
+        self.put(a, y);
+        self.put(b, x);
     }
 
     /// One of the links.

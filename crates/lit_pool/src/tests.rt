@@ -107,11 +107,20 @@ struct Named {
     number: usize,
 }
 
+/// The first two literals of an entry, if it is live and has so many.
+fn pair_of(pool: &Pool, s: Slot) -> Option<(Lit, Lit)> {
+    if !pool.is_live(s) || pool.lits(s).len() < 2 {
+        return None;
+    }
+    Some(pool.pair(s))
+}
+
 /// Whether all entries are alike.
 fn are_alike(pool: &Pool, plain: &Plain, entries: &[Named]) -> bool {
     for e in entries {
         if !pool.is_live(e.slot)
             || pool.lits(e.slot) != plain.lits(e.number)
+            || pair_of(pool, e.slot) != plain.pair(e.number)
             || pool.link(e.slot, Which::One) != plain.link(e.number, Which::One)
             || pool.link(e.slot, Which::Two) != plain.link(e.number, Which::Two)
         {

@@ -1,6 +1,7 @@
 // The side of a proof without ids. It gives the clauses ids from 1 on, keeps them in an engine, and finds a copy of a clause by
 // its set. Lemmas and cores are tested by propagation over the active clauses. What these force without an assumption stays on
-// the trail from one line to the next, and is given up only where a clause that is a reason is deleted or weakened.
+// the trail from one line to the next. Where a clause is deleted or weakened that is a literal's reason, a clause of this literal
+// alone takes its place, and the trail is given up only where there is none or the clause that goes is the first one.
 
 ghost use Rattle.std.specs.Prelude.{◌≡◌, ◌+◌, ◌<◌, ◌≤◌, ◌^◌, List, [], ◌∷◌, ◌++◌, true, false, length, IsTrue, IfOk, IfNone, IsOk, OnOk, OnErr, is_none, All};
 ghost use Rattle.lits.specs.Literal.{max_var, var};
@@ -11,7 +12,6 @@ ghost use Rattle.session_rules.specs.History.{phase, broken_unless};
 ghost use Rattle.session_rules.specs.Own.{events_of, own_faults};
 ghost use Rattle.session_rules.specs.Pair.{is_idle};
 ghost use Rattle.session_events.specs.State.{AreReserved};
-ghost use Rattle.propagation.specs.Engine.{level_after, IsNoReason};
 ghost use Rattle.pair_matcher.specs.Sides.{StandsFor, AreAfter, Judged, first_rule, is_frugal};
 ghost use Rattle.pair_matcher.specs.Inside.{clauses_of_engine, IsBetweenLines};
 
@@ -158,20 +158,6 @@ fn judge_lemma(p: &mut Parts, lits: &[Lit]) -> Result<Option<Rule>, AllocError>
     Ok(None)
 }
 
-/// Empties the trail where the clause is a reason, so that it may be deleted or weakened.
-fn release(engine: &mut Engine, id: Id)
-    requires { level_after engine.old.trail ≡ 0 }
-    ensures no_reason { IsNoReason engine.new id }
-    ensures level { level_after engine.new.trail ≡ 0 }
-    ensures clauses { engine.new.clauses ≡ engine.old.clauses }
-    ensures vars { engine.new.vars ≡ engine.old.vars }
-    ensures kept { IsNoReason engine.old id → engine.new ≡ engine.old }
-{
-    if engine.is_reason(id) {
-        engine.clear();
-    }
-}
-
 /// Judges a deletion: of the least active id of the clause. It takes no memory for a clause of at most 16 literals.
 fn judge_deletion(p: &mut Parts, lits: &[Lit]) -> Result<Option<Rule>, AllocError>
     requires { IsBetweenLines p.old.engine p.old.events }
@@ -184,7 +170,7 @@ fn judge_deletion(p: &mut Parts, lits: &[Lit]) -> Result<Option<Rule>, AllocErro
     let Some(id) = p.engine.store().least_active(&set) else {
         return Ok(Some(Rule::NotActive(1)));
     };
-    release(&mut p.engine, id);
+    p.engine.release(id);
     match p.engine.delete(id) {
         Ok(()) => Ok(None),
         Err(_) => Err(AllocError),
@@ -202,7 +188,7 @@ fn judge_weakening(p: &mut Parts, lits: &[Lit]) -> Result<Option<Rule>, AllocErr
     let Some(id) = p.engine.store().least_active(&set) else {
         return Ok(Some(Rule::NotActive(1)));
     };
-    release(&mut p.engine, id);
+    p.engine.release(id);
     match p.engine.weaken(id) {
         Ok(()) => Ok(None),
         Err(_) => Err(AllocError),
@@ -344,8 +330,9 @@ impl IdrupSide {
         self.parts.events.assumed()
     }
 
-    /// A variable that no literal of the last query is beyond.
+    /// The greatest reserved variable, 0 where none is. No literal of the last query is beyond it.
     pub fn reserved(&self) -> u32
+        ensures value { result ≡ self.now.events.reserved }
         ensures limit { result ≤ max_var }
         ensures assumed { All (λ l. var l ≤ result) self.now.events.assumed }
     {

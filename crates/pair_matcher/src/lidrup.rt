@@ -291,8 +291,9 @@ impl LidrupSide {
         self.parts.events.assumed()
     }
 
-    /// A variable that no literal of the last query is beyond.
+    /// The greatest reserved variable, 0 where none is. No literal of the last query is beyond it.
     pub fn reserved(&self) -> u32
+        ensures value { result ≡ self.now.events.reserved }
         ensures limit { result ≤ max_var }
         ensures assumed { All (λ l. var l ≤ result) self.now.events.assumed }
     {

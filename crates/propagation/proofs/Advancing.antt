@@ -1,18 +1,15 @@
 -- Steps of a propagation.
-use Rattle.std.proofs.Common.{◌≡◌, ◌≢◌, ℕ, suc, zero, ◌+◌, ◌*◌, ◌<◌, ◌≤◌, ◌⊎◌, List, [], ◌∷◌, ◌++◌, length, take, drop, get_or, map, Option, Some, None, refl, sym, ap, ◌∙◌, subst, inl, inr, arith, true, false, Bool, nat_eq, ◌||◌, append_assoc, length-append, drop-cons}
+use Rattle.std.proofs.Common.{◌≡◌, ℕ, suc, ◌+◌, ◌<◌, ◌≤◌, List, [], ◌∷◌, ◌++◌, length, drop, get_or, Some, refl, sym, ap, ◌∙◌, subst, inl, inr, arith, true, append_assoc, length-append, drop-cons}
 use Rattle.std.proofs.lemmas.List.{append-nil}
-use Rattle.std.proofs.lemmas.Bool.{both_ways}
-use Rattle.std.proofs.lemmas.Option.{same_Some}
-use Rattle.lits.specs.Literal.{var, neg}
 use Rattle.session_rules.specs.Logic.{has}
 use Rattle.clause_store.specs.Clauses.{Store, slot_at, lits_at}
 use Rattle.watch_chains.specs.Chains.{Watched}
 use Rattle.propagation.specs.declared.Step.{Step}
-use Rattle.propagation.specs.Assigned.{Assigned, with_last, IsNew}
-use Rattle.propagation.specs.Clauses.{Clauses, clauses_of}
-use Rattle.propagation.specs.Engine.{EngineView, IsEngine, IsStep, IsFree, IsReason, literals, with_trail, level_after, is_assumed}
+use Rattle.propagation.specs.Assigned.{Assigned, with_last}
+use Rattle.propagation.specs.Clauses.{clauses_of}
+use Rattle.propagation.specs.Engine.{EngineView, IsEngine, IsStep, IsFree, IsReason, literals}
 use Rattle.propagation.specs.Watching.{engine_of, IsSatisfied, IsCovered, IsDone, IsReady, IsMoved, Advances}
-use Rattle.propagation.proofs.Trail.{IsEngine-push, step_of_reason, active_reserved, literals-push, level_after-append, length-literals}
+use Rattle.propagation.proofs.Trail.{IsEngine-push, step_of_reason, literals-push, level_after-append, length-literals}
 use Rattle.propagation.proofs.Covering.{has_more, has_end, covered_more, done_covered}
 use Rattle.watch_chains.proofs.Running.{member_cases}
 

@@ -17,8 +17,8 @@ use Rattle.propagation.specs.declared.assignment.Mark.{Mark}
 use Rattle.propagation.specs.declared.assignment.Value.{Value}
 use Rattle.propagation.specs.declared.assignment.Value.TheVariants as value
 use Rattle.propagation.specs.Engine.{EngineView, IsEngine, literals, level_after, level_behind, reason_in, value_in, is_assumed, IsFree, up_to_level}
-use Rattle.propagation.specs.Assigned.{Assigned, with_last, IsNew, AreNew, AreValues, AreMarks, IsAssigned, raised, lowered, value_of}
-use Rattle.propagation.proofs.Trail.{literals-push, length-literals, AreNew-push, AreNew-prefix, AreNew-more, new-room, level_after-append}
+use Rattle.propagation.specs.Assigned.{Assigned, with_last, IsNew, IsAt, AreNew, AreValues, AreMarks, IsAssigned, raised, lowered, value_of}
+use Rattle.propagation.proofs.Trail.{literals-push, length-literals, AreNew-push, AreNew-prefix, AreNew-more, new-room, level_after-append, cut_push}
 use Rattle.propagation.proofs.Levels.{level_after-le}
 use Rattle.propagation.proofs.Closing.{has-push_old, new-consistent}
 
@@ -197,12 +197,17 @@ reason-found (x ∷ ss) l r e = elim (cases_Bool (nat_eq x.lit l)) [
   | inr o ↦ let f : reason_in ss l ≡ Some r = rw o at e in let n = reason-found ss l r f in (n.0, there x n.0 ss n.1, n.2)
 ]
 
-cut_at : (ss : List Step) (s : Step) → Contains ss s → (before : List Step) × (after : List Step) × (ss ≡ before ++ s ∷ after)
+pub cut_at : (ss : List Step) (s : Step) → Contains ss s → (before : List Step) × (after : List Step) × (ss ≡ before ++ s ∷ after)
 cut_at [] s m = absurd (not_in_nil s m)
 cut_at (x ∷ ss) s m = elim (here_or_there x s ss m) [
   | inl e ↦ ([], ss, ap (λ z. z ∷ ss) e)
   | inr n ↦ let r = cut_at ss s n in (x ∷ r.0, r.1, ap (λ z. x ∷ z) r.2)
 ]
+
+-- the reason of a step's literal
+pub reason_at : (n : ℕ) (before after : List Step) (t : Step) → AreNew n (before ++ t ∷ after) → reason_in (before ++ t ∷ after) t.lit ≡ t.reason
+reason_at n before after t k =
+    ap (λ z. reason_in z t.lit) (sym (append_assoc before (t ∷ []) after)) ∙ reason-kept (before ++ t ∷ []) after t.lit (has-push_same before t) ∙ reason-new before t (k before after t refl).free.0
 
 -- the literal that a clause forced is one of the clause
 pub forced_literal : (e : EngineView) (id r : ℕ) (s : Step) → IsEngine e → Contains e.trail s → s.reason ≡ Some r → slot_of e.clauses id ≡ Some r
@@ -220,31 +225,49 @@ forced_literal e id r s k m is at =
 
 -- ---- The marks
 
-abbrev mark_of : ℕ → Step → Mark
-mark_of level s = record { level = raised level s.reason; reason = s.reason }
+abbrev mark_of : ℕ → ℕ → Step → Mark
+mark_of level place s = record { level = raised level s.reason; place = place }
 
-marks-put : (n : ℕ) (ss : List Step) (s : Step) (marks : List Mark) (level : ℕ) → AreMarks ss marks → IsNew n ss s.lit → n ≤ length marks → level ≡ level_after ss
-    → AreMarks (ss ++ s ∷ []) (slice_set marks (var s.lit - 1) (record { level = raised level s.reason; reason = s.reason }))
-marks-put n ss s marks level k new le count l m h at = elim (cases l s.lit) [
+-- a step has its place before the ones that are added
+at-more : (ss : List Step) (s : Step) (l place : ℕ) → IsAt ss l place → IsAt (ss ++ s ∷ []) l place
+at-more ss s l place k = record {
+  before = k.before;
+  step = k.step;
+  after = k.after ++ s ∷ [];
+  cut = ap (λ z. z ++ s ∷ []) k.cut ∙ append_assoc k.before (k.step ∷ k.after) (s ∷ []);
+  counted = k.counted;
+  lit = k.lit;
+}
+
+at-fewer : (ss : List Step) (s : Step) (l place : ℕ) → l ≢ s.lit → IsAt (ss ++ s ∷ []) l place → IsAt ss l place
+at-fewer ss s l place n k = elim (cut_push ss s k.before k.after k.step k.cut) [
+  | inl r ↦ absurd (n (sym k.lit ∙ ap (λ z. z.lit) r.1))
+  | inr r ↦ record { before = k.before; step = k.step; after = r.0; cut = r.1; counted = k.counted; lit = k.lit }
+]
+
+marks-put : (n : ℕ) (ss : List Step) (s : Step) (marks : List Mark) (level place : ℕ) → AreMarks ss marks → IsNew n ss s.lit → n ≤ length marks → level ≡ level_after ss → place ≡ length ss
+    → AreMarks (ss ++ s ∷ []) (slice_set marks (var s.lit - 1) (record { level = raised level s.reason; place = place }))
+marks-put n ss s marks level place k new le count long l m h at = elim (cases l s.lit) [
   | inl y ↦
-      let here : get_or (slice_set marks (var s.lit - 1) (mark_of level s)) (var s.lit - 1) m ≡ mark_of level s = get_or-set_same marks (var s.lit - 1) (mark_of level s) m (omega (arith, new.reserved)) in
+      let here : get_or (slice_set marks (var s.lit - 1) (mark_of level place s)) (var s.lit - 1) m ≡ mark_of level place s = get_or-set_same marks (var s.lit - 1) (mark_of level place s) m (omega (arith, new.reserved)) in
       let reached : 0 + level_after ss ≡ level = omega (arith, count) in
-      let is : m ≡ mark_of level s = at ∙ ap (λ z. get_or (slice_set marks (var s.lit - 1) (mark_of level s)) (var z - 1) m) y ∙ here in
+      let is : m ≡ mark_of level place s = at ∙ ap (λ z. get_or (slice_set marks (var s.lit - 1) (mark_of level place s)) (var z - 1) m) y ∙ here in
       record {
         level = ap (level_behind 0 (ss ++ s ∷ [])) y ∙ level-new 0 ss s new.free ∙ ap (λ z. Some (raised z s.reason)) reached ∙ ap (λ z. Some z.level) (sym is);
-        reason = ap (reason_in (ss ++ s ∷ [])) y ∙ reason-new ss s new.free.0 ∙ ap (λ z. z.reason) (sym is);
+        at = record { before = ss; step = s; after = []; cut = refl; counted = ap (λ z. z.place) is ∙ long; lit = sym y };
       }
   | inr o ↦
       let old : has (literals ss) l ≡ true = sym (has-push_other ss s l o) ∙ h in
       let far : l ≢ neg s.lit = λ e. both_ways _ new.free.1 (subst (λ z. has (literals ss) z ≡ true) e old) in
       let apart : var l - 1 ≢ var s.lit - 1 = λ e. omega (arith, o, far, e) in
-      let mark_at = k l m old (at ∙ get_or-set_other marks (var s.lit - 1) (var l - 1) (mark_of level s) m apart) in
-      record { level = level-kept 0 ss (s ∷ []) l old ∙ mark_at.level; reason = reason-kept ss (s ∷ []) l old ∙ mark_at.reason }
+      let mark_at = k l m old (at ∙ get_or-set_other marks (var s.lit - 1) (var l - 1) (mark_of level place s) m apart) in
+      record { level = level-kept 0 ss (s ∷ []) l old ∙ mark_at.level; at = at-more ss s l m.place mark_at.at }
 ]
 
-marks-taken : (ss : List Step) (s : Step) (marks : List Mark) → AreMarks (ss ++ s ∷ []) marks → AreMarks ss marks
-marks-taken ss s marks k l m h at = let r = k l m (has-push_old ss s l h) at in
-    record { level = sym (level-kept 0 ss (s ∷ []) l h) ∙ r.level; reason = sym (reason-kept ss (s ∷ []) l h) ∙ r.reason }
+marks-taken : (ss : List Step) (s : Step) (marks : List Mark) → IsFree (literals ss) s.lit → AreMarks (ss ++ s ∷ []) marks → AreMarks ss marks
+marks-taken ss s marks free k l m h at = let r = k l m (has-push_old ss s l h) at in
+    let other : l ≢ s.lit = λ e. both_ways _ free.0 (subst (λ z. has (literals ss) z ≡ true) e h) in
+    record { level = sym (level-kept 0 ss (s ∷ []) l h) ∙ r.level; at = at-fewer ss s l m.place other r.at }
 
 -- ---- The level
 
@@ -277,17 +300,17 @@ assigned-new a b = record {
     no_step [] after s e = cc e
     no_step (b ∷ before) after s e = let f : [] ≡ b ∷ (before ++ s ∷ after) = e in cc f
 
-pub assigned-put : (ss : List Step) (lits : List ℕ) (values : List Value) (marks : List Mark) (level a b c d : ℕ) (s : Step) → IsAssigned ss lits values marks level a b → IsNew (length marks) ss s.lit → a ≤ c → b ≤ d
-    → IsAssigned (ss ++ s ∷ []) (lits ++ s.lit ∷ []) (slice_set (slice_set values s.lit value.True) (neg s.lit) value.False) (slice_set marks (var s.lit - 1) (mark_of level s)) (raised level s.reason) c d
-assigned-put ss lits values marks level a b c d s k new ac bd =
-    let stay : length (slice_set marks (var s.lit - 1) (mark_of level s)) ≡ length marks = length-set marks (var s.lit - 1) (mark_of level s) in
+pub assigned-put : (ss : List Step) (lits : List ℕ) (values : List Value) (marks : List Mark) (level place a b c d : ℕ) (s : Step) → IsAssigned ss lits values marks level a b → IsNew (length marks) ss s.lit → place ≡ length ss → a ≤ c → b ≤ d
+    → IsAssigned (ss ++ s ∷ []) (lits ++ s.lit ∷ []) (slice_set (slice_set values s.lit value.True) (neg s.lit) value.False) (slice_set marks (var s.lit - 1) (mark_of level place s)) (raised level s.reason) c d
+assigned-put ss lits values marks level place a b c d s k new long ac bd =
+    let stay : length (slice_set marks (var s.lit - 1) (mark_of level place s)) ≡ length marks = length-set marks (var s.lit - 1) (mark_of level place s) in
     let wide : length (slice_set (slice_set values s.lit value.True) (neg s.lit) value.False) ≡ length values = length-set (slice_set values s.lit value.True) (neg s.lit) value.False ∙ length-set values s.lit value.True in
     record {
       each_new = subst (λ z. AreNew z (ss ++ s ∷ [])) (sym stay) (AreNew-push (length marks) ss s k.each_new new);
       same = ap (λ z. z ++ s.lit ∷ []) k.same ∙ sym (literals-push ss s);
       rows = wide ∙ k.rows ∙ ap (λ z. 2 * z) (sym stay);
       each_value = values-put ss s values k.each_value new.free (omega (arith, new.reserved, k.rows)) (omega (arith, new.reserved, k.rows));
-      each_mark = marks-put (length marks) ss s marks level k.each_mark new (omega arith) k.counted;
+      each_mark = marks-put (length marks) ss s marks level place k.each_mark new (omega arith) k.counted long;
       counted = ap (λ z. raised z s.reason) k.counted ∙ sym (level_after-push ss s);
       limit = omega (arith, stay, k.limit);
       steps_fit = omega (arith, stay, k.steps_fit, ac);
@@ -296,12 +319,12 @@ assigned-put ss lits values marks level a b c d s k new ac bd =
 
 -- there is room for one more
 pub assigned-room : (ss : List Step) (lits : List ℕ) (values : List Value) (marks : List Mark) (level a b : ℕ) (s : Step) → IsAssigned ss lits values marks level a b → IsNew (length marks) ss s.lit
-    → (length ss < a) × (length lits < b) × (level < max_var)
+    → (length ss < a) × (length lits < b) × (level < max_var) × (length ss < max_var)
 assigned-room ss lits values marks level a b s k new =
     let lt : length ss < length marks = new-room (length marks) ss s k.each_new new in
     let few : level_after ss ≤ length ss = level_after-le ss in
     let same : length lits ≡ length ss = ap length k.same ∙ length-literals ss in
-    (omega (arith, lt, k.steps_fit), omega (arith, lt, same, k.lits_fit), omega (arith, lt, few, k.counted, k.limit))
+    (omega (arith, lt, k.steps_fit), omega (arith, lt, same, k.lits_fit), omega (arith, lt, few, k.counted, k.limit), omega (arith, lt, k.limit))
 
 -- the last step was new behind the others
 pub last-new : (n : ℕ) (ss : List Step) (s : Step) → AreNew n (ss ++ s ∷ []) → IsNew n ss s.lit
@@ -325,7 +348,7 @@ assigned-taken all ss lits new values marks level n a b c d s k at count cut ac 
       same = lits-taken ss s lits new n (k.same ∙ ap literals at) count cut;
       rows = wide ∙ k.rows;
       each_value = values-taken ss s values (subst (λ z. AreValues z values) at k.each_value) last.free (omega (arith, last.reserved, k.rows)) (omega (arith, last.reserved, k.rows));
-      each_mark = marks-taken ss s marks (subst (λ z. AreMarks z marks) at k.each_mark);
+      each_mark = marks-taken ss s marks last.free (subst (λ z. AreMarks z marks) at k.each_mark);
       counted = ap (λ z. lowered z s.reason) (k.counted ∙ ap level_after at ∙ level_after-push ss s) ∙ lowered-raised (level_after ss) s.reason;
       limit = k.limit;
       steps_fit = omega (arith, k.steps_fit, ac);

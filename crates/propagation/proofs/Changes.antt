@@ -1,11 +1,10 @@
 -- What a change of one clause leaves.
-use Rattle.std.proofs.Common.{◌≡◌, ◌≢◌, ℕ, suc, zero, ◌+◌, ◌<◌, ◌≤◌, ◌⊎◌, List, [], ◌∷◌, ◌++◌, length, map, Option, Some, None, refl, sym, ap, ◌∙◌, subst, inl, inr, arith, true, false, Bool, Contains, max, nat_eq, ◌||◌, eq-eqb, get_or, drop}
-use Rattle.std.specs.Prelude.{is_some, option_map, option_and_then, IsTrue, Result, Ok, Err, IfOk, IfErr}
+use Rattle.std.proofs.Common.{◌≡◌, ◌≢◌, ℕ, ◌<◌, ◌≤◌, ◌⊎◌, List, [], ◌∷◌, ◌++◌, length, Option, Some, None, refl, sym, ap, ◌∙◌, subst, inl, inr, arith, true, false, Bool, Contains, nat_eq, ◌||◌, eq-eqb, get_or, drop}
+use Rattle.std.specs.Prelude.{is_some, option_map, IsTrue, Result, Ok, Err, IfOk, IfErr}
 use Rattle.clause_store.specs.declared.StoreFault.{StoreFault}
-use Rattle.clause_store.specs.declared.StoreFault.TheVariants.{NotActive}
 use Rattle.propagation.specs.Watching.{engine_of}
 use Rattle.std.proofs.lemmas.Option.{same_Some, none-some}
-use Rattle.std.proofs.lemmas.Bool.{cases_Bool, both_ways, and_parts, and_from, or_left, or_right}
+use Rattle.std.proofs.lemmas.Bool.{cases_Bool, both_ways, and_from, or_left, or_right}
 use Rattle.std.proofs.lemmas.Bool.Decides.{nat_tests}
 use Rattle.std.specs.Ordering.{nat_cmp, eq_by_cmp}
 use Rattle.std.specs.Cmp.{nat_cmp_total}
@@ -24,8 +23,8 @@ use Rattle.std.specs.Prelude.{is_none, unwrap_or}
 use Rattle.clause_store.specs.Clauses as held
 use Rattle.propagation.specs.Clauses as seen
 use Rattle.propagation.specs.Clauses.{Clause, Clauses, clause_of, clauses_of, slot_of, active_at}
-use Rattle.propagation.specs.Engine.{EngineView, IsEngine, IsStep, IsReason, IsNoReason, IsFree, IsRestored, weakened_clause, literals, with_step, with_clauses, with_vars, no_engine, active_clause, level_after, is_assumed}
-use Rattle.propagation.proofs.ClausesMap.{get-clauses_of, slot_of-clauses_of, same_items, unit_same, slot_if_active}
+use Rattle.propagation.specs.Engine.{EngineView, IsEngine, IsStep, IsNoReason, IsFree, IsRestored, weakened_clause, literals, with_step, with_clauses, with_vars, no_engine, active_clause, level_after, is_assumed}
+use Rattle.propagation.proofs.ClausesMap.{get-clauses_of, slot_of-clauses_of, same_items, unit_same}
 
 pub ties : (q : ℕ) → eq_by_cmp nat_cmp q q ≡ true
 ties q = grind (arith, nat_tests)

@@ -1,18 +1,16 @@
 -- Clauses that are covered: what keeps them so, and what follows of them at the end.
-use Rattle.std.proofs.Common.{◌≡◌, ◌≢◌, ℕ, suc, zero, ◌+◌, ◌<◌, ◌≤◌, ◌⊎◌, List, [], ◌∷◌, ◌++◌, length, take, drop, get_or, Option, Some, None, refl, sym, ap, ◌∙◌, subst, inl, inr, arith, true, false, Bool, nat_eq, ◌||◌, Contains, append_assoc, eqb-true, eq-eqb}
+use Rattle.std.proofs.Common.{◌≡◌, ℕ, suc, zero, ◌≤◌, ◌⊎◌, List, [], ◌∷◌, ◌++◌, length, take, get_or, refl, sym, ap, subst, inl, inr, arith, true, false, nat_eq, ◌||◌, eqb-true, eq-eqb}
 use Rattle.std.specs.Prelude.{slice_index}
-use Rattle.std.specs.List.{list_any, list_all}
-use Rattle.std.proofs.lemmas.List.{append-nil, take-append-le}
-use Rattle.std.proofs.lemmas.Bool.{cases_Bool, both_ways, or_cases, or_left, or_right, false_from_ne_true}
+use Rattle.std.proofs.lemmas.List.{take-append-le}
+use Rattle.std.proofs.lemmas.Bool.{both_ways, or_cases, false_from_ne_true}
 use Rattle.lits.specs.Literal.{neg}
-use Rattle.session_rules.specs.Logic.{has, is_falsified, is_unit}
-use Rattle.lits.proofs.Members.{here, all_at, has_at, has_from}
-use Rattle.clause_store.specs.Clauses.{Store, IsOnce, slot_at, lits_at, IsStore}
+use Rattle.session_rules.specs.Logic.{has}
+use Rattle.lits.proofs.Members.{all_at, has_at}
+use Rattle.clause_store.specs.Clauses.{IsOnce}
 use Rattle.watch_chains.proofs.Running.{has-here, has-there, member_cases}
 use Rattle.watch_chains.proofs.Two.{has-first, has-second, firsts-apart}
-use Rattle.propagation.specs.declared.Step.{Step}
-use Rattle.propagation.specs.Engine.{IsQuiet, literals, IsEngine, EngineView}
-use Rattle.propagation.specs.Watching.{IsSatisfied, HasTwo, IsCovered, IsDone, IsReady, IsMoved, Rests}
+use Rattle.propagation.specs.Engine.{IsQuiet}
+use Rattle.propagation.specs.Watching.{IsSatisfied, HasTwo, IsCovered, IsDone}
 use Rattle.propagation.proofs.Scan.{quiet_true, quiet_two}
 
 -- ---- Beginnings of a list

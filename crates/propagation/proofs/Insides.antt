@@ -1,33 +1,32 @@
 -- What holds inside an engine, and is kept by each call.
-use Rattle.std.proofs.Common.{◌≡◌, ◌≢◌, ℕ, suc, zero, ◌+◌, ◌-◌, ◌*◌, ◌<◌, ◌≤◌, ◌⊎◌, List, [], ◌∷◌, ◌++◌, length, take, drop, get_or, Option, Some, None, refl, sym, ap, ◌∙◌, subst, inl, inr, arith, true, false, Bool, nat_eq, Contains, append_assoc, length-append, max, not, ◌&&◌}
+use Rattle.std.proofs.Common.{◌≡◌, ℕ, suc, zero, ◌+◌, ◌-◌, ◌*◌, ◌<◌, ◌≤◌, ◌⊎◌, List, [], ◌∷◌, ◌++◌, length, take, drop, get_or, Option, Some, None, refl, sym, ap, ◌∙◌, subst, inl, inr, arith, true, false, Contains, length-append, not}
 use Rattle.std.proofs.Math.Seq.{take-append_seam}
-use Rattle.std.specs.Prelude.{option_map, is_some, unwrap_or, IsTrue, Result, Ok, Err, IfOk, IfErr, IfNone}
-use Rattle.std.proofs.lemmas.List.{append-nil, drop-append-le, length-take-le}
-use Rattle.std.proofs.lemmas.Bool.{cases_Bool, both_ways, and_parts}
-use Rattle.std.proofs.lemmas.Option.{same_Some, none-some}
-use Rattle.std.specs.FinMap.{get, insert, remove, empty, contains_key, get-insert, get-empty}
+use Rattle.std.specs.Prelude.{option_map, is_some, IsTrue, Result, Ok, Err, IfOk, IfErr, IfNone}
+use Rattle.std.proofs.lemmas.List.{length-take-le}
+use Rattle.std.proofs.lemmas.Bool.{both_ways, and_parts}
+use Rattle.std.proofs.lemmas.Option.{none-some}
+use Rattle.std.specs.FinMap.{insert, remove, empty, contains_key, get-insert, get-empty}
 use Rattle.std.specs.Cmp.{nat_cmp_total}
 use Rattle.std.specs.Ordering.{nat_cmp}
-use Rattle.lits.specs.Literal.{max_var, var, neg}
+use Rattle.lits.specs.Literal.{max_var, var}
 use Rattle.session_rules.specs.Logic.{has}
-use Rattle.lits.proofs.Members.{has_at, has_from}
 use Rattle.clause_store.specs.declared.StoreFault.{StoreFault}
 use Rattle.clause_store.specs.declared.StoreFault.TheVariants.{NotActive}
 use Rattle.clause_store.specs.Clauses as held
 use Rattle.clause_store.specs.Clauses.{Held, Store, IsStore, IsFresh, slot_at, lits_at, is_active, is_held, new_clause}
-use Rattle.watch_chains.specs.Chains.{Watched, IsWatched, deleted, weakened, IsRestored as IsRestoredWatched, left}
+use Rattle.watch_chains.specs.Chains.{Watched, IsWatched, deleted, weakened, IsRestored as IsRestoredWatched}
 use Rattle.watch_chains.proofs.Seen.{length-left, length-entered}
 use Rattle.propagation.specs.declared.Step.{Step}
 use Rattle.propagation.specs.declared.Heads.{Heads}
 use Rattle.propagation.specs.Assigned.{Assigned, with_last, with_steps, nothing_assigned}
 use Rattle.propagation.specs.Clauses as seen
 use Rattle.propagation.specs.Clauses.{Clause, Clauses, clauses_of, slot_of}
-use Rattle.propagation.specs.Engine.{EngineView, IsEngine, IsStep, IsNoReason, IsPropagated, literals, level_after, up_to_level, Grows, with_step, with_trail, with_clauses, active_clause, weakened_clause, is_assumed}
+use Rattle.propagation.specs.Engine.{EngineView, IsEngine, IsStep, IsNoReason, literals, level_after, up_to_level, Grows, active_clause, weakened_clause}
 use Rattle.propagation.specs.Watching.{engine_of, IsReady, IsMoved, Advances, Rests}
 use Rattle.propagation.specs.Inside.{AreShorts, IsMark, IsInside}
 use Rattle.propagation.proofs.Levels.{up_to_level-prefix, up_to_level-below, up_to_level-assumed, up_to_level-lower, level_after-exactly}
 use Rattle.propagation.proofs.ClausesMap.{get-clauses_of, slot_of-clauses_of}
-use Rattle.propagation.proofs.Changes.{clauses_of-insert, clauses_of-remove, clauses_of-empty, clauses_of-weakened, clauses_of-restored, get-from_held, IsEngine-insert, IsEngine-remove, IsEngine-put, IsEngine-none, IsEngine-vars, no_reason-slotless, literals-reserved, held_seen, held_if_active, literals_seen, value_new, ties}
+use Rattle.propagation.proofs.Changes.{clauses_of-insert, clauses_of-remove, clauses_of-empty, clauses_of-weakened, clauses_of-restored, get-from_held, IsEngine-insert, IsEngine-remove, IsEngine-put, IsEngine-none, IsEngine-vars, no_reason-slotless, literals-reserved, held_seen, held_if_active, value_new, ties}
 use Rattle.propagation.proofs.Trail.{IsEngine-push, IsEngine-prefix, level_after-append, length-literals}
 use Rattle.propagation.proofs.Covering.{has_more, covered_more}
 use Rattle.propagation.proofs.Advancing.{literals-append, moved_none, advances_settled, ready_still, length_longer}

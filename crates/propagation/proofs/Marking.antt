@@ -1,9 +1,9 @@
 -- How far the trail has been propagated: marks that are kept.
-use Rattle.std.proofs.Common.{◌≡◌, ◌≢◌, ℕ, suc, zero, ◌+◌, ◌*◌, ◌<◌, ◌≤◌, ◌⊎◌, List, [], ◌∷◌, ◌++◌, length, take, drop, get_or, Option, Some, None, refl, sym, ap, ◌∙◌, subst, inl, inr, arith, true, false, Bool, nat_eq, Contains, append_assoc, length-append, eq-eqb}
+use Rattle.std.proofs.Common.{◌≡◌, ◌≢◌, ℕ, ◌≤◌, ◌⊎◌, List, [], ◌∷◌, ◌++◌, length, take, drop, Option, Some, None, refl, sym, ap, ◌∙◌, subst, inl, inr, arith, true, false, Bool, length-append}
 use Rattle.std.specs.Prelude.{slice_index, nat_lt, option_map, is_some, unwrap_or}
-use Rattle.std.proofs.lemmas.List.{append-nil, drop-append-le}
-use Rattle.std.proofs.lemmas.Bool.{cases_Bool, both_ways, false_from_ne_true}
-use Rattle.std.proofs.lemmas.Option.{same_Some, none-some}
+use Rattle.std.proofs.lemmas.List.{drop-append-le}
+use Rattle.std.proofs.lemmas.Bool.{cases_Bool, both_ways}
+use Rattle.std.proofs.lemmas.Option.{none-some}
 use Rattle.std.specs.Cmp.{nat_cmp_total}
 use Rattle.std.specs.FinMap.{get, insert, remove, contains_key, get-insert, get-remove}
 use Rattle.session_rules.specs.Logic.{has}
@@ -15,10 +15,9 @@ use Rattle.clause_store.specs.Clauses.{Held, Store, IsStore, IsOnce, slot_at, li
 use Rattle.watch_chains.proofs.Running.{has-here, has-there, member_cases, unlike}
 use Rattle.watch_chains.proofs.Two.{once-lits, has-first, has-second, firsts-apart}
 use Rattle.watch_chains.proofs.Keeping.{lits-literals}
-use Rattle.propagation.specs.declared.Step.{Step}
-use Rattle.propagation.specs.Clauses.{Clause, Clauses, clauses_of, slot_of, active_at, literals_at}
-use Rattle.propagation.specs.Engine.{literals, IsQuiet, EngineView, IsEngine, IsPropagated, active_clause}
-use Rattle.propagation.specs.Watching.{engine_of, IsSatisfied, HasTwo, IsCovered, IsReady, IsMoved, Rests}
+use Rattle.propagation.specs.Clauses.{Clause, Clauses, clauses_of, active_at, literals_at}
+use Rattle.propagation.specs.Engine.{literals, EngineView, IsEngine, IsPropagated}
+use Rattle.propagation.specs.Watching.{IsCovered, IsReady, IsMoved, Rests}
 use Rattle.propagation.specs.Inside.{HasPair, AreShorts, IsMark}
 use Rattle.propagation.proofs.ClausesMap.{slot_of-clauses_of, slot_if_active}
 use Rattle.propagation.proofs.Changes.{cases, ties, differs, literals_seen, held_seen, held_if_active}

@@ -1,22 +1,22 @@
 -- Changes of one list's order, and the chains after them.
-use Rattle.std.proofs.Common.{◌≡◌, ◌≢◌, ℕ, suc, zero, ◌+◌, ◌<◌, ◌≤◌, ◌⊎◌, List, [], ◌∷◌, ◌++◌, length, get_or, Option, Some, None, refl, sym, ap, ◌∙◌, subst, inl, inr, arith, cond, true, false, Bool, nat_eq, ◌||◌, Contains, eqb-true, eq-eqb, get_or-set_other, get_or-set_same}
-use Rattle.std.specs.Prelude.{slice_index, slice_set, option_map, option_and_then, nat_le}
+use Rattle.std.proofs.Common.{◌≡◌, ◌≢◌, ℕ, ◌<◌, ◌≤◌, List, [], length, Some, refl, sym, ap, ◌∙◌, subst, inl, inr, arith, cond, eq-eqb, get_or-set_other, get_or-set_same}
+use Rattle.std.specs.Prelude.{slice_index, slice_set, option_map}
 use Rattle.std.specs.List.{swap}
 use Rattle.std.proofs.Math.ListN.{length-set}
 use Rattle.std.proofs.lemmas.List.Edits.{length-swap}
-use Rattle.std.proofs.lemmas.Bool.{cases_Bool, both_ways, false_from_ne_true}
-use Rattle.std.proofs.lemmas.Bool.Decides.{leb_tells, nat_tests}
+use Rattle.std.proofs.lemmas.Bool.{false_from_ne_true}
+use Rattle.std.proofs.lemmas.Bool.Decides.{leb_tells}
 use Rattle.std.specs.Cmp.{nat_cmp_total}
 use Rattle.std.specs.FinMap.{get, insert, same_map, get-insert, nat_cmp-IsAntisymmetric}
 use Rattle.session_rules.specs.Logic.{has}
-use Rattle.clause_store.specs.Clauses.{Held, Place, Store, IsStore, IsSlot, slot_at, place_at, lits_at, literals_at, clause_at, swapped, with_place, with_swap}
+use Rattle.clause_store.specs.Clauses.{Held, Place, Store, slot_at, lits_at, literals_at, clause_at, swapped, with_place, with_swap}
 use Rattle.watch_chains.specs.Runs.{without}
 use Rattle.watch_chains.specs.Chains.{Watched, IsWatched, chain_at, in_front, taken_out, turned, moved}
-use Rattle.watch_chains.proofs.Running.{differs, unlike, has-without_at, without-absent}
-use Rattle.watch_chains.proofs.Placed.{Active, active}
+use Rattle.watch_chains.proofs.Running.{differs, has-without_at, without-absent}
+use Rattle.watch_chains.proofs.Placed.{active}
 use Rattle.watch_chains.proofs.Keeping.{lits-literals}
 use Rattle.watch_chains.proofs.Seen.{length-moved, at_beyond}
-use Rattle.watch_chains.proofs.Swapping.{swap-slot, swap-lits, swap-literals, at-first, at-second, at-third}
+use Rattle.watch_chains.proofs.Swapping.{swap-slot, swap-lits, swap-literals, at-first, at-third}
 use Rattle.propagation.specs.Clauses.{Clause, Clauses, clause_of, clauses_of}
 use Rattle.propagation.specs.Watching.{IsReordered, IsSecond, IsFirst, IsPair, IsLeftOut}
 use Rattle.propagation.proofs.ClausesMap.{get-clauses_of}

@@ -1,15 +1,14 @@
 -- What looking at one clause tells.
-use Rattle.std.proofs.Common.{◌≡◌, ◌≢◌, ℕ, suc, zero, ◌+◌, ◌<◌, ◌≤◌, ◌⊎◌, List, [], ◌∷◌, ◌++◌, length, get_or, Option, Some, None, refl, sym, ap, ◌∙◌, subst, inl, inr, arith, true, false, Bool, nat_eq, ◌||◌, ◌&&◌, Contains, eqb-true, eq-eqb, take}
-use Rattle.std.specs.Prelude.{slice_index}
-use Rattle.std.proofs.lemmas.Bool.{cases_Bool, both_ways, and_from, or_left, or_right, false_from_ne_true}
+use Rattle.std.proofs.Common.{◌≡◌, ℕ, ◌+◌, ◌<◌, ◌≤◌, ◌⊎◌, List, length, get_or, Some, sym, ap, ◌∙◌, subst, inl, inr, arith, true, false, nat_eq, ◌||◌, eq-eqb}
+use Rattle.std.proofs.lemmas.Bool.{both_ways, and_from, or_left, or_right, false_from_ne_true}
 use Rattle.lits.specs.Literal.{neg}
 use Rattle.session_rules.specs.Logic.{has, is_falsified, is_unit}
 use Rattle.lits.proofs.Members.{has_from}
 use Rattle.clause_store.specs.Clauses.{Store, IsStore, slot_at, lits_at}
-use Rattle.watch_chains.specs.Chains.{Watched, IsWatched, chain_at}
+use Rattle.watch_chains.specs.Chains.{Watched, chain_at}
 use Rattle.propagation.specs.Clauses.{clauses_of, slot_of, active_at}
-use Rattle.propagation.specs.Engine.{IsFree, IsReason}
-use Rattle.propagation.specs.Watching.{IsSatisfied, HasTwo, IsCovered, IsMoved, IsPair, IsLeftOut}
+use Rattle.propagation.specs.Engine.{IsReason}
+use Rattle.propagation.specs.Watching.{HasTwo, IsCovered, IsMoved, IsPair, IsLeftOut}
 use Rattle.propagation.proofs.Changes.{cases}
 use Rattle.propagation.proofs.Scan.{all_by_index, contains_at, false_at, unit_at}
 use Rattle.propagation.proofs.Covering.{has_take}

@@ -19,7 +19,7 @@ use Rattle.propagation.specs.Engine.{EngineView, IsEngine, IsStep, IsFree, IsRea
 -- ---- Ends of lists
 
 -- a list whose end is one item: the parts before an item of it
-cut_push : (xs : List Step) (y : Step) (before after : List Step) (s : Step) → xs ++ y ∷ [] ≡ before ++ s ∷ after
+pub cut_push : (xs : List Step) (y : Step) (before after : List Step) (s : Step) → xs ++ y ∷ [] ≡ before ++ s ∷ after
     → ((before ≡ xs) × (s ≡ y)) ⊎ ((rest : List Step) × (xs ≡ before ++ s ∷ rest))
 cut_push [] y [] after s e = inl (refl, let f : y ∷ [] ≡ s ∷ after = e in cc f)
 cut_push [] y (b ∷ []) after s e = let f : y ∷ [] ≡ b ∷ s ∷ after = e in cc f

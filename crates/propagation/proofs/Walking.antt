@@ -1,21 +1,20 @@
 -- A walk along the chain of a false literal.
-use Rattle.std.proofs.Common.{◌≡◌, ◌≢◌, ℕ, suc, zero, ◌+◌, ◌*◌, ◌<◌, ◌≤◌, ◌⊎◌, List, [], ◌∷◌, ◌++◌, length, take, get_or, Option, Some, None, refl, sym, ap, ◌∙◌, subst, inl, inr, arith, true, false, Bool, nat_eq, append_assoc, length-append, if◌then◌else◌, cond, eqb-true, eq-eqb}
+use Rattle.std.proofs.Common.{◌≡◌, ℕ, suc, zero, ◌+◌, ◌*◌, ◌<◌, ◌≤◌, ◌⊎◌, List, [], ◌∷◌, ◌++◌, length, take, get_or, Option, Some, None, refl, sym, ap, ◌∙◌, subst, inl, inr, arith, true, false, nat_eq, append_assoc, if◌then◌else◌, eq-eqb}
 use Rattle.std.specs.Prelude.{slice_index}
 use Rattle.std.proofs.lemmas.List.{append-nil, get_or_default}
 use Rattle.std.proofs.lemmas.Bool.{cases_Bool, both_ways, false_from_ne_true}
 use Rattle.std.proofs.lemmas.Option.{same_Some, none-some}
 use Rattle.lits.specs.Literal.{var, neg}
 use Rattle.session_rules.specs.Logic.{has}
-use Rattle.clause_store.specs.Clauses.{Store, IsOnce, slot_at, lits_at}
+use Rattle.clause_store.specs.Clauses.{IsOnce, slot_at, lits_at}
 use Rattle.watch_chains.specs.Runs.{without}
 use Rattle.watch_chains.specs.Chains.{Watched, IsWatched, chain_at, is_watch, front_of, behind}
-use Rattle.watch_chains.proofs.Running.{has-here, has-there, member_cases, differs, unlike, without-absent}
+use Rattle.watch_chains.proofs.Running.{has-here, has-there, member_cases, differs, without-absent}
 use Rattle.watch_chains.proofs.Two.{first_watch, second_watch, watch_cases}
 use Rattle.propagation.specs.declared.Step.{Step}
 use Rattle.propagation.specs.Assigned.{Assigned}
-use Rattle.propagation.specs.Clauses.{clauses_of}
 use Rattle.propagation.specs.Engine.{EngineView, literals, IsEngine}
-use Rattle.propagation.specs.Watching.{engine_of, IsSatisfied, HasTwo, IsCovered, IsDone, IsReady, IsLeftOut, Advances}
+use Rattle.propagation.specs.Watching.{engine_of, IsSatisfied, HasTwo, IsDone, IsReady, IsLeftOut, Advances}
 use Rattle.propagation.proofs.Covering.{has_more, take_next}
 use Rattle.propagation.proofs.Trail.{length-literals}
 use Rattle.propagation.proofs.Scan.{contains_at}

@@ -1,5 +1,5 @@
--- The true literals in their order, with the value of each literal and the level and the reason of each by table.
-use Rattle.std.specs.Prelude.{◌≡◌, ℕ, ◌*◌, ◌≤◌, Bool, true, false, List, [], ◌∷◌, ◌++◌, length, get_or, Option, None, Some, is_none, if◌then◌else◌, ◌+◌, ◌-◌, IsTrue, refl}
+-- The true literals in their order, with the value of each literal and the level and the place of each by table.
+use Rattle.std.specs.Prelude.{nat_eq, map, ◌≡◌, ℕ, ◌*◌, ◌≤◌, Bool, true, false, List, [], ◌∷◌, ◌++◌, length, get_or, Option, None, Some, is_none, if◌then◌else◌, ◌+◌, ◌-◌, IsTrue, refl}
 use Rattle.std.specs.Coded.{Coded, code_by, coded×, coded_list, coded_ℕ}
 use Rattle.lits.specs.Literal.{max_var, var}
 use Rattle.session_rules.specs.Logic.{has}
@@ -7,7 +7,7 @@ use Rattle.propagation.specs.declared.Step.{Step}
 use Rattle.propagation.specs.declared.assignment.Mark.{Mark}
 use Rattle.propagation.specs.declared.assignment.Value.{Value}
 use Rattle.propagation.specs.declared.assignment.Value.TheVariants as value
-use Rattle.propagation.specs.Engine.{literals, level_after, level_behind, reason_in, value_in, IsFree, step_code}
+use Rattle.propagation.specs.Engine.{literals, level_after, level_behind, value_in, IsFree, step_code}
 
 -- the steps, oldest first, and the greatest reserved variable
 pub record Assigned : Type 0 where
@@ -43,10 +43,27 @@ pub record IsNew (vars : ℕ) (before : List Step) (l : ℕ) : Type 0 where
   pub reserved : var l ≤ vars
   pub free : IsFree (literals before) l
 
--- the mark has the level and the reason of the literal
+-- so many steps stand before the literal's own
+pub record IsAt (steps : List Step) (l place : ℕ) : Type 0 where
+  pub before : List Step
+  pub step : Step
+  pub after : List Step
+  pub cut : steps ≡ before ++ step ∷ after
+  pub counted : place ≡ length before
+  pub lit : step.lit ≡ l
+
+-- the mark has the level of the literal and the place of its step
 pub record HasMark (steps : List Step) (l : ℕ) (m : Mark) : Type 0 where
   pub level : level_behind 0 steps l ≡ Some m.level
-  pub reason : reason_in steps l ≡ m.reason
+  pub at : IsAt steps l m.place
+
+-- the step, with this slot as its reason where it is that of the literal
+abbrev pub rested : ℕ → ℕ → Step → Step
+rested l s t = if nat_eq t.lit l then record { lit = t.lit; reason = Some s } else t
+
+-- the steps with this slot as the literal's reason
+abbrev pub with_reason : List Step → ℕ → ℕ → List Step
+with_reason ss l s = map (rested l s) ss
 
 -- each literal was new when it came
 abbrev pub AreNew : ℕ → List Step → Type 0

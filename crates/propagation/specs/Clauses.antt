@@ -1,10 +1,10 @@
 -- What an engine shows of its clauses: for each id its literals, and its slot where it is active. The order of the
 -- literals and the links aren't seen, so a call that changes only these leaves the clauses as they were.
-use Rattle.std.specs.Prelude.{◌≡◌, ℕ, Bool, List, [], ◌∷◌, map, Option, None, Some, is_some, if◌then◌else◌, option_and_then, option_map, unwrap_or, is_none, ◌&&◌, refl}
+use Rattle.std.specs.Prelude.{ℕ, Bool, List, [], ◌∷◌, map, Option, None, Some, is_some, if◌then◌else◌, option_and_then, option_map, unwrap_or, is_none, ◌&&◌, refl}
 use Rattle.std.specs.Ordering.{nat_cmp}
 use Rattle.std.specs.FinMap as finmap
 use Rattle.std.specs.Coded.{Coded, code_by, coded×, coded_list, coded_option, coded_ℕ}
-use Rattle.clause_store.specs.Clauses.{Held, Store, place_at}
+use Rattle.clause_store.specs.Clauses.{Held, Store}
 
 -- a clause: its literal set as the ascending list, and its slot, which it has where it is active
 pub record Clause : Type 0 where

@@ -1,6 +1,5 @@
 -- What callers see of an engine: its clauses, its trail and its greatest reserved variable.
-use Rattle.std.specs.Prelude.{nat_eq, ◌≡◌, ◌≢◌, ℕ, zero, suc, ◌+◌, ◌≤◌, Bool, true, false, not, ◌||◌, List, [], ◌∷◌, ◌++◌, length, map, filter, find, Contains, All, Option, None, Some, IsSome, IsTrue, is_some, is_none, if◌then◌else◌, option_and_then, option_map, refl}
-use Rattle.std.specs.Ordering.{nat_cmp}
+use Rattle.std.specs.Prelude.{nat_eq, ◌≡◌, ◌≢◌, ℕ, zero, suc, ◌+◌, ◌≤◌, Bool, true, false, List, [], ◌∷◌, ◌++◌, length, map, filter, find, Contains, Option, None, Some, IsTrue, is_none, if◌then◌else◌, option_and_then, refl}
 use Rattle.std.specs.FinMap as finmap
 use Rattle.std.specs.Coded.{Coded, code_by, coded×, coded_list, coded_option, coded_ℕ}
 use Rattle.lits.specs.Literal.{max_var, var, neg}
@@ -8,7 +7,7 @@ use Rattle.session_rules.specs.Logic.{has, is_falsified, is_unit}
 use Rattle.propagation.specs.declared.Step.{Step}
 use Rattle.lits.specs.Clause.{set_of}
 pub use Rattle.clause_store.specs.Clauses.{IsOnce}
-use Rattle.propagation.specs.Clauses.{Clause, Clauses, clause_code, slot_of, active_at, active, literals_at}
+use Rattle.propagation.specs.Clauses.{Clause, Clauses, clause_code, slot_of, active_at, literals_at}
 
 -- an engine
 pub record EngineView : Type 0 where
@@ -141,6 +140,14 @@ IsSomeReason e id = (s : Step) × (r : ℕ) × Contains e.trail s × (s.reason �
 -- the clause is no literal's reason
 abbrev pub IsNoReason : EngineView → ℕ → Type 0
 IsNoReason e id = (s : Step) (r : ℕ) → Contains e.trail s → s.reason ≡ Some r → slot_of e.clauses id ≡ Some r → ⊥
+
+-- the clause is this literal's reason
+abbrev pub IsReasonOf : EngineView → ℕ → ℕ → Type 0
+IsReasonOf e id l = (r : ℕ) × (slot_of e.clauses id ≡ Some r) × (reason_in e.trail l ≡ Some r)
+
+-- the slot is that of another active clause, which is of this literal alone
+abbrev pub IsOtherUnit : EngineView → ℕ → ℕ → ℕ → Type 0
+IsOtherUnit e id l s = (x : ℕ) × (x ≢ id) × (slot_of e.clauses x ≡ Some s) × (active_at e.clauses x ≡ Some (l ∷ []))
 
 -- the level at which the literal or its negation came on the trail, where so many are assumed before
 unfoldable pub level_behind : ℕ → List Step → ℕ → Option ℕ

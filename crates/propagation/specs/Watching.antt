@@ -1,15 +1,15 @@
 -- What propagation by watches keeps: of each active clause that was looked at a literal is true, or the first two of its
 -- list aren't the negations of literals that have been propagated.
-use Rattle.std.specs.Prelude.{◌≡◌, ◌≢◌, ℕ, ◌+◌, ◌<◌, ◌≤◌, ◌⊎◌, Bool, true, false, List, [], ◌∷◌, ◌++◌, length, take, drop, slice_index, Option, None, Some, IsTrue}
-use Rattle.lits.specs.Literal.{var, neg}
-use Rattle.session_rules.specs.Logic.{has, is_falsified, is_unit}
-use Rattle.clause_store.specs.Clauses.{Store, slot_at, lits_at, IsSlot}
+use Rattle.std.specs.Prelude.{◌≡◌, ◌≢◌, ℕ, ◌<◌, ◌≤◌, ◌⊎◌, true, false, List, ◌++◌, length, take, slice_index, Option, None, Some, IsTrue}
+use Rattle.lits.specs.Literal.{neg}
+use Rattle.session_rules.specs.Logic.{has, is_falsified}
+use Rattle.clause_store.specs.Clauses.{Store, slot_at, lits_at}
 use Rattle.watch_chains.specs.Runs.{without}
-use Rattle.watch_chains.specs.Chains.{Watched, chain_at, IsWatched}
+use Rattle.watch_chains.specs.Chains.{Watched, chain_at}
 use Rattle.propagation.specs.declared.Step.{Step}
 use Rattle.propagation.specs.declared.Pending.{Pending}
 use Rattle.propagation.specs.declared.Pending.TheVariants as pending
-use Rattle.propagation.specs.Clauses.{Clauses, clauses_of, slot_of, active_at}
+use Rattle.propagation.specs.Clauses.{clauses_of, slot_of, active_at}
 use Rattle.propagation.specs.Engine.{EngineView, literals, level_after, IsFree, IsReason, IsEngine}
 use Rattle.propagation.specs.Assigned.{Assigned}
 

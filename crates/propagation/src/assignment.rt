@@ -1,12 +1,12 @@
-// The true literals in their order. The value of each literal lies in a table by its code, the level and the reason of a
-// true one in a table by its variable, so that no question goes over the trail.
+// The true literals in their order. The value of each literal lies in a table by its code, the level of a true one and the
+// place of its step in a table by its variable, so that no question goes over the trail.
 
-ghost use Rattle.std.specs.Prelude.{◌≡◌, ℕ, ◌≤◌, ◌<◌, List, [], length, max, OnOk, OnErr};
+ghost use Rattle.std.specs.Prelude.{◌≡◌, ℕ, ◌≤◌, ◌<◌, List, [], length, max, OnOk, OnErr, IsTrue, is_some};
 ghost use Rattle.lits.specs.Literal.{max_var, neg};
 ghost use Rattle.session_rules.specs.Logic.{has};
 ghost use Rattle.propagation.specs.declared.Step.{Step};
 ghost use Rattle.propagation.specs.Engine.{literals, level_after, level_behind, reason_in, value_in, up_to_level};
-ghost use Rattle.propagation.specs.Assigned.{Assigned, nothing_assigned, with_last, with_steps, raised, lowered, value_of, IsNew};
+ghost use Rattle.propagation.specs.Assigned.{Assigned, nothing_assigned, with_last, with_steps, with_reason, raised, lowered, value_of, IsNew};
 
 use crate::Step;
 use clause_store::Slot;
@@ -22,11 +22,11 @@ enum Value {
     False,
 }
 
-/// The level and the reason of a variable that has a value.
+/// The level of a variable that has a value, and the place of its step, counted from 0.
 #[derive(Clone, Copy)]
 struct Mark {
     level: u32,
-    reason: Option<Slot>,
+    place: u32,
 }
 
 /// The level behind a step of this reason.
@@ -102,13 +102,7 @@ impl Assignment {
         self.steps.reserve(count)?;
         self.lits.reserve(count)?;
         self.values.resize(2 * count, Value::Free)?;
-        match self.marks.resize(
-            count,
-            Mark {
-                level: 0,
-                reason: None,
-            },
-        ) {
+        match self.marks.resize(count, Mark { level: 0, place: 0 }) {
             Ok(()) => Ok(()),
             Err(e) => {
                 self.values.truncate(before);
@@ -124,10 +118,8 @@ impl Assignment {
     {
         let step = Step { lit: l, reason };
         let level = raised(self.level, step.reason);
-        let mark = Mark {
-            level,
-            reason: step.reason,
-        };
+        let place = self.steps.len() as u32;
+        let mark = Mark { level, place };
         self.values[l.code() as usize] = Value::True;
         self.values[l.neg().code() as usize] = Value::False;
         self.marks[(l.var() - 1) as usize] = mark;
@@ -249,9 +241,22 @@ impl Assignment {
         ensures { result ≡ reason_in self.now.steps l }
     {
         if self.is_true(l) {
-            self.marks[(l.var() - 1) as usize].reason
+            let place = self.marks[(l.var() - 1) as usize].place as usize;
+            self.steps[place].reason
         } else {
             None
         }
+    }
+
+    /// Gives a true literal that has a reason this one in its place.
+    pub(crate) fn rest_on(&mut self, l: Lit, s: Slot)
+        requires { IsTrue (is_some (reason_in self.old.steps l)) }
+        ensures { self.new ≡ with_steps self.old (with_reason self.old.steps l s) }
+    {
+        let place = self.marks[(l.var() - 1) as usize].place as usize;
+        self.steps[place] = Step {
+            lit: l,
+            reason: Some(s),
+        };
     }
 }

@@ -3,18 +3,19 @@
 //! see the clauses without the order of their literals and their links, so that a body may move watches as it likes.
 #![tactic(auto)]
 
-ghost use Rattle.std.specs.Prelude.{◌≡◌, ◌≢◌, ℕ, ◌+◌, ◌<◌, ◌≤◌, List, [], ◌++◌, ◌∷◌, length, take, drop, slice_index, max, OnOk, OnErr, IfOk, IfErr, IfSome, IfNone, MatchOption, Contains, IsTrue, Bool, true, false, ◌||◌, nat_eq, Some, None, is_some};
+ghost use Rattle.std.specs.Prelude.{◌≡◌, ◌≢◌, ℕ, ◌+◌, ◌<◌, ◌≤◌, List, [], ◌++◌, ◌∷◌, ◌⊎◌, length, take, drop, slice_index, max, OnOk, OnErr, IfOk, IfErr, IfSome, IfNone, MatchOption, Contains, IsTrue, Bool, true, false, ◌||◌, nat_eq, Some, None, is_some};
 ghost use Rattle.std.specs.List.{list_all};
 ghost use Rattle.lits.specs.Literal.{max_var, neg};
 ghost use Rattle.session_rules.specs.Logic as logic;
 ghost use Rattle.std.specs.FinMap as finmap;
-ghost use Rattle.clause_store.specs.Clauses.{is_held, IsFresh, new_clause};
+ghost use Rattle.clause_store.specs.Clauses.{is_held, slot_at, lits_at, IsFresh, new_clause};
+ghost use Rattle.propagation.specs.Watching.{IsMoved, Rests};
 ghost use Rattle.propagation.specs.declared.Step.{Step};
 ghost use Rattle.propagation.specs.Clauses.{clauses_of, active, active_at, slot_of, literals_at, is_weakened};
 ghost use Rattle.watch_chains.specs.Chains.{AreReserved, IsWatched};
 ghost use Rattle.propagation.specs.Inside.{AreShorts};
 ghost use Rattle.lits.specs.Literal.{var};
-ghost use Rattle.propagation.specs.Engine.{EngineView, literals, level_after, value_in, IsFree, IsStep, IsEngine, IsFalseAt, IsPropagated, Grows, with_step, with_trail, with_vars, with_clauses, active_clause, no_engine, reason_in, level_behind, IsNoReason, IsSomeReason, IsRestored, weakened_clause, stands_before, ReasonsAre, AssumesFrom, IsOnce, up_to_level};
+ghost use Rattle.propagation.specs.Engine.{EngineView, literals, level_after, value_in, IsFree, IsStep, IsEngine, IsFalseAt, IsPropagated, Grows, with_step, with_trail, with_vars, with_clauses, active_clause, no_engine, reason_in, level_behind, IsNoReason, IsSomeReason, IsReasonOf, IsOtherUnit, IsRestored, weakened_clause, stands_before, ReasonsAre, AssumesFrom, IsOnce, up_to_level};
 
 mod assignment;
 mod watching;
@@ -22,7 +23,7 @@ mod watching;
 use crate::assignment::Assignment;
 use crate::watching::{advance, keep_short, look_at, rests};
 use clause_store::{Slot, Store, StoreFault};
-use lits::Lit;
+use lits::{Lit, LitSet};
 use std::alloc::{AllocError, Global};
 use std::marker::Model;
 use watch_chains::Watches;
@@ -42,19 +43,19 @@ enum Pending {
     Quiet,
 }
 
-/// Whether one of the literals is true with this reason.
-fn is_reason_among(trail: &Assignment, lits: &[Lit], slot: Slot) -> bool
-    ensures yes { IsTrue result → (l : ℕ) × Contains lits.now l × (reason_in trail.now.steps l ≡ Some slot) }
-    ensures no { result ≡ false → (l : ℕ) → Contains lits.now l → reason_in trail.now.steps l ≡ Some slot → ⊥ }
+/// The first of the literals that is true with this reason.
+fn forced_among(trail: &Assignment, lits: &[Lit], slot: Slot) -> Option<Lit>
+    ensures some { IfSome result (λ l. reason_in trail.now.steps l ≡ Some slot) }
+    ensures none { IfNone result ((l : ℕ) → Contains lits.now l → reason_in trail.now.steps l ≡ Some slot → ⊥) }
 {
     for l in lits {
         if let Some(reason) = trail.reason(*l) {
             if reason == slot {
-                return true;
+                return Some(*l);
             }
         }
     }
-    false
+    None
 }
 
 /// How many literals of the trail have been propagated, and how many ids have been looked at.
@@ -232,8 +233,10 @@ impl Engine {
             return Err(fault);
         }
         let _ = self.watches.store();
-        self.head = 0;
-        self.short_head = 0;
+        if !rests_at(&mut self.watches, &self.trail, id) {
+            self.head = 0;
+            self.short_head = 0;
+        }
         Ok(())
     }
 
@@ -242,9 +245,57 @@ impl Engine {
         ensures yes { IsTrue result → IsSomeReason self.now id }
         ensures no { result ≡ false → IsNoReason self.now id }
     {
+        self.forced_by(id).is_some()
+    }
+
+    /// The literal whose reason the clause is.
+    fn forced_by(&self, id: u64) -> Option<Lit>
+        ensures some { IfSome result (λ l. IsReasonOf self.now id l) }
+        ensures none { IfNone result (IsNoReason self.now id) }
+    {
         match self.watches.find(id) {
-            Some(slot) => is_reason_among(&self.trail, self.watches.lits(slot), slot),
-            None => false,
+            Some(slot) => forced_among(&self.trail, self.watches.lits(slot), slot),
+            None => None,
+        }
+    }
+
+    /// The slot of an active clause of the literal alone, of that with the least id; None where this is the given id.
+    fn other_unit(&self, id: u64, l: Lit) -> Option<Slot>
+        ensures some { IfSome result (λ s. IsOtherUnit self.now id l s) }
+        ensures none { IfNone result ((x : ℕ) → active_at self.now.clauses x ≡ Some (l ∷ []) → active_at self.now.clauses id ≡ Some (l ∷ [])) }
+    {
+        let Ok(set) = LitSet::of(*self.levels.allocator(), &[l]) else {
+            return None;
+        };
+        match self.watches.least_active(&set) {
+            Some(least) => if least == id {
+                None
+            } else {
+                self.watches.find(least)
+            },
+            None => None,
+        }
+    }
+
+    /// Makes an active clause no literal's reason, at level 0, so that it may be deleted or weakened. Where it forced a literal,
+    /// the active clause of this literal alone with the least id takes its place; where there is none, or where it is this
+    /// clause, the trail is emptied. It takes no memory.
+    pub fn release(&mut self, id: u64)
+        requires level { level_after self.old.trail ≡ 0 }
+        ensures no_reason { IsNoReason self.new id }
+        ensures level { level_after self.new.trail ≡ 0 }
+        ensures clauses { self.new.clauses ≡ self.old.clauses }
+        ensures vars { self.new.vars ≡ self.old.vars }
+        ensures literals { (literals self.new.trail ≡ literals self.old.trail) ⊎ (self.new.trail ≡ []) }
+        ensures kept { IsNoReason self.old id → self.new ≡ self.old }
+        ensures stays { (x l : ℕ) → IsReasonOf self.old id l → active_at self.old.clauses x ≡ Some (l ∷ []) → active_at self.old.clauses id ≢ Some (l ∷ []) → literals self.new.trail ≡ literals self.old.trail }
+    {
+        let Some(l) = self.forced_by(id) else {
+            return;
+        };
+        match self.other_unit(id, l) {
+            Some(slot) => self.trail.rest_on(l, slot),
+            None => self.clear(),
         }
     }
 
@@ -365,6 +416,20 @@ impl Engine {
             self.levels.truncate(kept);
             self.trail.back_to(level);
         }
+    }
+}
+
+/// Looks at the clause of an id. Whether it is active, nothing follows of it and it has two literals or more.
+fn rests_at(watches: &mut Watches, trail: &Assignment, id: u64) -> bool
+    ensures moved { IsMoved (literals trail.now.steps) watches.old.clauses watches.new.clauses }
+    ensures wide { length watches.new.chains ≡ length watches.old.chains }
+    ensures sound { IsWatched watches.new }
+    ensures rests { IsTrue result → (q s : ℕ) → slot_at watches.new.clauses id ≡ Some s → slot_at watches.new.clauses q ≡ Some s → Rests (literals trail.now.steps) (lits_at watches.new.clauses q) }
+    ensures active { IsTrue result → IsTrue (is_some (slot_at watches.new.clauses id)) }
+{
+    match watches.find(id) {
+        Some(slot) => rests(watches, trail, slot),
+        None => false,
     }
 }
 

@@ -42,6 +42,26 @@ fn add(engine: &mut Engine, id: u64, a: i64, b: i64, c: i64) -> bool
     }
 }
 
+// Adds a clause of one literal at level 0. Whether it went in.
+fn add_unit(engine: &mut Engine, id: u64, n: i64) -> bool
+    requires { engine.old.vars ≡ 9 }
+    ensures { engine.new.vars ≡ 9 }
+{
+    engine.level() == 0 && engine.add(id, &[lit(n)]).is_ok()
+}
+
+// Deletes a clause at level 0, which may have been a reason. Whether it was there.
+fn let_go(engine: &mut Engine, id: u64) -> bool
+    requires { engine.old.vars ≡ 9 }
+    ensures { engine.new.vars ≡ 9 }
+{
+    if engine.level() != 0 {
+        return false;
+    }
+    engine.release(id);
+    engine.delete(id).is_ok()
+}
+
 // Assumes a literal unless it has a value. Whether it had none.
 fn assume(engine: &mut Engine, n: i64) -> bool
     requires { engine.old.vars ≡ 9 }
@@ -88,6 +108,42 @@ fn reasons_are_named_by_their_ids(rt: HostRuntime) -> Result<(), Fail> {
     assert_eq!(rt; engine.level(), 0);
     assert_eq!(rt; engine.level_of(lit(-1)), Some(0));
     assert_eq!(rt; engine.level_of(lit(2)), None);
+    Ok(())
+}
+
+#[test]
+fn a_unit_clause_takes_over_as_reason(rt: HostRuntime) -> Result<(), Fail> {
+    let mut engine = nine(rt.alloc())?;
+    assert!(rt; add(&mut engine, 1, -2, -2, -2));
+    assert!(rt; add(&mut engine, 2, 1, 2, 1));
+    assert!(rt; add(&mut engine, 3, 1, 4, 5));
+    assert_eq!(rt; engine.propagate(), None);
+    assert!(rt; engine.is_reason(2));
+    assert!(rt; add_unit(&mut engine, 7, 1));
+    assert!(rt; let_go(&mut engine, 3));
+    assert!(rt; let_go(&mut engine, 2));
+    assert_eq!(rt; engine.trail(), [lit(-2), lit(1)].as_slice());
+    assert_eq!(rt; engine.level_of(lit(1)), Some(0));
+    assert!(rt; engine.is_reason(1));
+    assert!(rt; engine.is_reason(7));
+    assert!(rt; engine.reason(lit(1)) == engine.store().find(7));
+    assert_eq!(rt; engine.propagate(), None);
+    assert_eq!(rt; engine.trail(), [lit(-2), lit(1)].as_slice());
+    Ok(())
+}
+
+#[test]
+fn without_a_unit_clause_the_trail_is_emptied(rt: HostRuntime) -> Result<(), Fail> {
+    let mut engine = nine(rt.alloc())?;
+    assert!(rt; add(&mut engine, 1, -2, -2, -2));
+    assert!(rt; add(&mut engine, 2, 1, 2, 1));
+    assert!(rt; add(&mut engine, 3, -1, 4, 4));
+    assert_eq!(rt; engine.propagate(), None);
+    assert_eq!(rt; engine.trail(), [lit(-2), lit(1), lit(4)].as_slice());
+    assert!(rt; let_go(&mut engine, 2));
+    assert_eq!(rt; engine.trail().len(), 0);
+    assert_eq!(rt; engine.propagate(), None);
+    assert_eq!(rt; engine.trail(), [lit(-2)].as_slice());
     Ok(())
 }
 
@@ -185,15 +241,30 @@ fn a_weakened_clause_takes_no_part(rt: HostRuntime) -> Result<(), Fail> {
 }
 
 #[test]
-fn ids_are_refused_by_their_fault(rt: HostRuntime) -> Result<(), Fail> {
+fn a_taken_id_is_refused(rt: HostRuntime) -> Result<(), Fail> {
     let mut engine = nine(rt.alloc())?;
     assert!(rt; add(&mut engine, 1, 1, 2, 2));
     assert!(rt; engine.add(1, &[lit(3)]) == Err(StoreFault::IdTaken));
+    Ok(())
+}
+
+#[test]
+fn a_taken_id_is_refused_to_what_follows(rt: HostRuntime) -> Result<(), Fail> {
+    let mut engine = nine(rt.alloc())?;
+    assert!(rt; add(&mut engine, 1, 1, 2, 2));
     assert!(rt; engine.add_asserting(1, &[lit(3)]) == Err(StoreFault::IdTaken));
+    Ok(())
+}
+
+#[test]
+fn a_free_id_is_refused(rt: HostRuntime) -> Result<(), Fail> {
+    let mut engine = nine(rt.alloc())?;
+    assert_eq!(rt; engine.restore(2), Err(StoreFault::NotWeakened));
     engine.clear();
-    assert_eq!(rt; engine.restore(1), Err(StoreFault::NotWeakened));
     assert!(rt; !engine.is_reason(2));
     assert_eq!(rt; engine.weaken(2), Err(StoreFault::NotActive));
+    engine.clear();
+    assert_eq!(rt; engine.delete(2), Err(StoreFault::NotActive));
     Ok(())
 }
 
@@ -207,8 +278,6 @@ fn an_asserting_clause_gives_its_first_literal(rt: HostRuntime) -> Result<(), Fa
     engine.clear();
     assert!(rt; !engine.is_reason(6));
     assert_eq!(rt; engine.delete(6), Ok(()));
-    assert!(rt; !engine.is_reason(6));
-    assert_eq!(rt; engine.delete(6), Err(StoreFault::NotActive));
     assert!(rt; engine.store().find(6).is_none());
     law_of_trails();
     Ok(())

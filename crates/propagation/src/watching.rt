@@ -1,5 +1,6 @@
 // Propagation by watches. A clause of two or more literals watches the first two of its list: as long as neither of them
-// is false nothing follows of it, so only the clauses that watch a literal are visited when it becomes false.
+// is false nothing follows of it, so only the clauses that watch a literal are visited when it becomes false. Most of them
+// have a true one beside it, which the chains tell without a look at the list.
 
 ghost use Rattle.std.specs.Prelude.{◌≡◌, ℕ, ◌+◌, ◌*◌, ◌<◌, ◌≤◌, [], List, Some, length, drop, slice_index, nat_lt, IfSome, IfNone, IsTrue, false};
 ghost use Rattle.std.specs.List.{filter};
@@ -9,7 +10,7 @@ ghost use Rattle.clause_store.specs.Clauses.{slot_at, lits_at, IsSlot};
 ghost use Rattle.watch_chains.specs.Chains.{chain_at, IsWatched};
 ghost use Rattle.propagation.specs.Clauses.{clauses_of};
 ghost use Rattle.propagation.specs.Engine.{literals, IsEngine, IsFalseAt};
-ghost use Rattle.propagation.specs.Watching.{engine_of, IsNextFree, IsSecond, IsFirst, IsPair, IsMoved, IsLeftOut, IsSettled, IsReady, IsDone, Rests, Advances};
+ghost use Rattle.propagation.specs.Watching.{engine_of, IsNextFree, IsSecond, IsFirst, IsPair, IsMoved, IsLeftOut, IsSatisfied, IsSettled, IsReady, IsDone, Rests, Advances};
 
 use crate::Pending;
 use crate::assignment::Assignment;
@@ -118,6 +119,32 @@ fn visit(watches: &mut Watches, trail: &mut Assignment, slot: Slot) -> bool
     }
 }
 
+/// Whether the other literal that a clause watches which is in a literal's chain is true.
+fn is_satisfied(watches: &Watches, trail: &Assignment, slot: Slot, w: Lit) -> bool
+    requires { IsTrue (has (chain_at watches.now.chains w) slot) }
+    ensures yes { IsTrue result → (id : ℕ) → slot_at watches.now.clauses id ≡ Some slot → IsSatisfied (literals trail.now.steps) (lits_at watches.now.clauses id) }
+    ensures sound { IsWatched watches.now }
+{
+    trail.is_true(watches.other(slot, w))
+}
+
+/// Visits a clause that is in a literal's chain, unless the other literal that it watches is true. Whether the clause is
+/// false.
+fn visit_watching(watches: &mut Watches, trail: &mut Assignment, slot: Slot, w: Lit) -> bool
+    requires watched { IsTrue (has (chain_at watches.old.chains w) slot) }
+    requires engine { IsEngine (engine_of watches.old.clauses trail.old.steps trail.old.vars) }
+    ensures steps { Advances watches.old watches.new trail.old trail.new }
+    ensures chains { (w : ℕ) → IsTrue (has (literals trail.old.steps) (neg w)) → IsLeftOut slot (chain_at watches.old.chains w) (chain_at watches.new.chains w) }
+    ensures yes { IsTrue result → IsFalseAt (engine_of watches.new.clauses trail.new.steps trail.new.vars) slot }
+    ensures no { result ≡ false → (id : ℕ) → slot_at watches.new.clauses id ≡ Some slot → IsDone (literals trail.old.steps) (literals trail.new.steps) (lits_at watches.new.clauses id) }
+    ensures sound { IsWatched watches.new }
+{
+    if is_satisfied(watches, trail, slot, w) {
+        return false;
+    }
+    visit(watches, trail, slot)
+}
+
 /// Looks at the clause of an id, if it is active. Some is its slot where it is false.
 fn visit_id(watches: &mut Watches, trail: &mut Assignment, id: u64) -> Option<Slot>
     requires engine { IsEngine (engine_of watches.old.clauses trail.old.steps trail.old.vars) }
@@ -177,7 +204,7 @@ fn walk(watches: &mut Watches, trail: &mut Assignment, head: usize) -> Option<Sl
     let mut at = watches.first(w);
     while let Some(slot) = at {
         at = watches.behind(slot, w);
-        if visit(watches, trail, slot) {
+        if visit_watching(watches, trail, slot, w) {
             return Some(slot);
         }
     }

@@ -54,6 +54,15 @@ fn close(engine: &mut Engine, a: i64, b: i64) -> bool
     closed
 }
 
+// Whether a literal closes, with hints. The trail is emptied before.
+fn close_with(engine: &mut Engine, n: i64, hints: &mut Vec<u64>) -> Result<bool, AllocError>
+    requires { engine.old.vars ≡ 9 }
+    ensures { engine.new.vars ≡ 9 }
+{
+    engine.clear();
+    closes_with(engine, &[lit(n)], hints)
+}
+
 // Clause 1 is `1 2`, and clause 2 is `-1 2`.
 fn two_clauses(alloc: Global) -> Result<Engine, Fail>
     ensures trail { IfOk result (λ e. e.trail ≡ []) }
@@ -117,10 +126,9 @@ fn hints_are_the_clauses_that_close(rt: HostRuntime) -> Result<(), Fail> {
     assert!(rt; add(&mut engine, 3, 5, 6));
     let mut hints = Vec::new(rt.alloc());
     hints.push(7)?;
-    assert!(rt; !closes_with(&mut engine, &[lit(2)], &mut hints)?);
+    assert!(rt; !close_with(&mut engine, 2, &mut hints)?);
     assert_eq!(rt; hints.as_slice(), [7].as_slice());
-    engine.clear();
-    assert!(rt; closes_with(&mut engine, &[lit(-2)], &mut hints)?);
+    assert!(rt; close_with(&mut engine, -2, &mut hints)?);
     assert_eq!(rt; hints.len(), 2);
     assert!(rt; hints.contains(&1));
     assert!(rt; hints.contains(&2));

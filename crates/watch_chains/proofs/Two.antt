@@ -1,9 +1,8 @@
 -- A clause in its two chains: put in front of both, and taken out of both.
-use Rattle.std.proofs.Common.{◌≡◌, ◌≢◌, ℕ, ◌<◌, ◌≤◌, ◌⊎◌, List, [], ◌∷◌, length, Option, Some, None, refl, sym, ap, ◌∙◌, subst, inl, inr, arith, cond, true, false, Bool, nat_eq, ◌||◌, ◌&&◌, eqb-true, eq-eqb, get_or}
+use Rattle.std.proofs.Common.{◌≡◌, ◌≢◌, ℕ, ◌<◌, ◌≤◌, ◌⊎◌, List, [], ◌∷◌, length, Option, Some, None, refl, sym, ap, ◌∙◌, subst, inl, inr, arith, cond, true, false, Bool, nat_eq, ◌||◌, ◌&&◌, eqb-true, eq-eqb}
 use Rattle.std.specs.Prelude.{option_map, option_and_then, unwrap_or, slice_index, slice_set, nat_le, IfSome}
 use Rattle.std.proofs.Math.ListN.{length-set}
 use Rattle.std.proofs.lemmas.Option.{same_Some, none-some}
-use Rattle.std.proofs.lemmas.List.{get_or_read}
 use Rattle.std.proofs.lemmas.Bool.{cases_Bool, both_ways, or_cases, or_left, or_right, and_parts, and_from, le-leb, leb-true}
 use Rattle.lits.specs.Clause.{has}
 use Rattle.lit_pool.specs.declared.Which.TheVariants.{One, Two}
@@ -59,8 +58,8 @@ pub record Reads (ls : List ℕ) (a b : ℕ) : Type 0 where
   pub first : a ≡ slice_index ls 0
   pub second : b ≡ slice_index ls 1
 
-pub reads : (ls ms : List ℕ) (a b : ℕ) → ls ≡ ms → 2 ≤ length ms → a ≡ get_or ms 0 a → b ≡ get_or ms 1 b → Reads ls a b
-reads ls ms a b e big first second = subst (λ z. Reads z a b) (sym e) (record { big = big; first = get_or_read ms 0 a (omega arith) first 0; second = get_or_read ms 1 b (omega arith) second 0 })
+pub reads : (ls ms : List ℕ) (a b : ℕ) → ls ≡ ms → 2 ≤ length ms → (a ≡ slice_index ls 0) × (b ≡ slice_index ls 1) → Reads ls a b
+reads ls ms a b e big is = record { big = subst (λ z. 2 ≤ length z) (sym e) big; first = is.0; second = is.1 }
 
 -- ---- A slot put in front of both chains
 

@@ -1,5 +1,5 @@
 -- What callers see of watched clauses: the clauses as a store has them, without links, and a chain of slots for each literal.
-use Rattle.std.specs.Prelude.{◌≡◌, ℕ, ◌<◌, ◌*◌, ◌-◌, ◌++◌, replicate, Bool, true, ◌&&◌, ◌||◌, nat_eq, nat_le, if◌then◌else◌, List, [], ◌∷◌, length, slice_index, slice_index_or, slice_set, Option, None, Some, refl}
+use Rattle.std.specs.Prelude.{◌≡◌, ℕ, ◌<◌, ◌*◌, ◌≤◌, ◌⊎◌, ◌-◌, ◌++◌, replicate, Bool, true, ◌&&◌, ◌||◌, nat_eq, nat_le, if◌then◌else◌, List, [], ◌∷◌, length, slice_index, slice_index_or, slice_set, Option, None, Some, refl}
 use Rattle.std.specs.FinMap as finmap
 use Rattle.std.specs.Coded.{Coded, code_by, coded×, coded_list, coded_ℕ}
 use Rattle.lits.specs.Clause.{has}
@@ -24,6 +24,11 @@ chain_at cs l = slice_index_or cs l []
 -- whether a literal is one of the first two of a list of two or more
 abbrev pub is_watch : List ℕ → ℕ → Bool
 is_watch ls l = nat_le 2 (length ls) && (nat_eq (slice_index ls 0) l || nat_eq (slice_index ls 1) l)
+
+-- two literals are the first two of a list of two or more, in one order or the other
+pub record AreWatches (ls : List ℕ) (l m : ℕ) : Type 0 where
+  pub long : 2 ≤ length ls
+  pub first_two : ((l ≡ slice_index ls 0) × (m ≡ slice_index ls 1)) ⊎ ((l ≡ slice_index ls 1) × (m ≡ slice_index ls 0))
 
 -- the chains with a slot in front of one
 abbrev pub in_front : List (List ℕ) → ℕ → ℕ → List (List ℕ)

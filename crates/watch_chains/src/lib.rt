@@ -1,7 +1,8 @@
 //! Watch chains of a store's clauses. Unit propagation visits, for each literal that becomes false, the clauses that watch
 //! it (Moskewicz and others, 2001). Here a clause of two or more literals watches the first two of its list. The clauses
 //! that watch a literal are a chain through the links of the store's entries, so that a step along a chain reads the entry
-//! that is needed next anyway. A clause is taken out of the middle of a chain without a walk, since a table has the way back.
+//! that is needed next anyway, and beside it the other literal that its clause watches. A clause is taken out of the middle
+//! of a chain without a walk, since a table has the way back.
 #![tactic(auto)]
 
 ghost use Rattle.std.specs.Prelude.{◌≡◌, ℕ, ◌*◌, ◌<◌, ◌≤◌, ◌↔◌, List, [], length, OnOk, OnErr, IfOk, IfErr, IfSome, IfNone, IsTrue, true, false, Some};
@@ -10,7 +11,7 @@ ghost use Rattle.lits.specs.Clause.{has};
 ghost use Rattle.clause_store.specs.Clauses.{slot_at, lits_at, is_active, is_weakened, is_held, IsSlot, IsFresh, IsActiveWith, IsWeakenedWith};
 ghost use Rattle.clause_store.specs.declared.StoreFault.TheVariants as fault;
 ghost use Rattle.watch_chains.specs.Links.{unlinked};
-ghost use Rattle.watch_chains.specs.Chains.{Watched, IsWatched, IsRestored, AreReserved, chain_at, front_of, behind, reserved, added, deleted, weakened, turned, moved};
+ghost use Rattle.watch_chains.specs.Chains.{Watched, IsWatched, IsRestored, AreReserved, AreWatches, chain_at, front_of, behind, reserved, added, deleted, weakened, turned, moved};
 
 use clause_store::Store;
 pub use clause_store::{Slot, StoreFault};
@@ -188,6 +189,15 @@ impl Watches {
         ensures sound { IsWatched self.now }
     {
         links::next_of(&self.store, l, s)
+    }
+
+    /// The other literal that a clause watches which is in a literal's chain.
+    pub fn other(&self, s: Slot, l: Lit) -> Lit
+        requires { has (chain_at self.now.chains l) s ≡ true }
+        ensures watches { (id : ℕ) → slot_at self.now.clauses id ≡ Some s → AreWatches (lits_at self.now.clauses id) l result }
+        ensures sound { IsWatched self.now }
+    {
+        links::other_of(&self.store, l, s)
     }
 
     /// Exchanges the first two literals of an active clause's list. The chains stay.

@@ -5,6 +5,7 @@
 ghost use Rattle.clause_store.specs.Clauses.{slot_at, with_swap, IsStore, Store as Clauses};
 ghost use Rattle.std.specs.List.{list_all};
 ghost use Rattle.std.specs.Prelude.{nat_lt, ◌≡◌, ℕ, ◌<◌, List, length, IfSome, OnOk, OnErr, Some, ◌≤◌, ◌≢◌, slice_index, slice_set};
+ghost use Rattle.watch_chains.specs.Chains.{AreWatches};
 ghost use Rattle.watch_chains.specs.Links.{IsMember, AreChained, CanEnter, CanLeave, CanMove, CanPart, lits_of, id_at, backs_at, ends_in, turned_store, turned_backs, moved_by, entered_by, left_by, unlinked, which_in, next_in, with_next, back_in, with_back, head_at, fronted_backs, joined_store, joined_backs, joined_heads};
 
 use clause_store::{Slot, Store, Which};
@@ -66,11 +67,17 @@ fn which_of(store: &Store, l: Lit, s: Slot) -> Which
     requires { IsMember store.now l s }
     ensures { result ≡ which_in store.now l s }
 {
-    if store.lits(s)[0] == l {
-        Which::One
-    } else {
-        Which::Two
-    }
+    let (first, _) = store.pair(s);
+    if first == l { Which::One } else { Which::Two }
+}
+
+/// The other literal that a member of a literal's chain watches.
+pub(crate) fn other_of(store: &Store, l: Lit, s: Slot) -> Lit
+    requires { IsMember store.now l s }
+    ensures { AreWatches (lits_of store.now s) l result }
+{
+    let (first, second) = store.pair(s);
+    if first == l { second } else { first }
 }
 
 /// The slot behind a member of a literal's chain.
@@ -198,12 +205,10 @@ pub(crate) fn enter(
     ensures backs { length backs.new.items ≡ length backs.old.items }
     ensures chained { (chains : ℕ → List ℕ) → CanEnter store.old heads.old.items backs.old.items s chains → AreChained store.new heads.new.items backs.new.items (entered_by chains (lits_of store.old s) s) }
 {
-    let lits = store.lits(s);
-    if lits.len() < 2 {
+    if store.lits(s).len() < 2 {
         return;
     }
-    let one = lits[0];
-    let two = lits[1];
+    let (one, two) = store.pair(s);
     front(store, heads, backs, one, s);
     front(store, heads, backs, two, s);
 }
@@ -214,13 +219,13 @@ pub(crate) fn sides_of(store: &Store, backs: &Vec<Backs>, s: Slot) -> Option<Sid
     requires room { s < length backs.now.items }
     ensures { result ≡ ends_in store.now backs.now.items s }
 {
-    let lits = store.lits(s);
-    if lits.len() < 2 {
+    if store.lits(s).len() < 2 {
         return None;
     }
+    let (one, two) = store.pair(s);
     Some(Sides {
-        one: ends_of(store, backs, lits[0], s),
-        two: ends_of(store, backs, lits[1], s),
+        one: ends_of(store, backs, one, s),
+        two: ends_of(store, backs, two, s),
     })
 }
 
@@ -280,9 +285,8 @@ pub(crate) fn move_second(
     ensures backs { length backs.new.items ≡ length backs.old.items }
     ensures chained { (chains : ℕ → List ℕ) → CanMove store.old heads.old.items backs.old.items s k chains → AreChained store.new heads.new.items backs.new.items (moved_by chains (lits_of store.old s) s k) }
 {
-    let lits = store.lits(s);
-    let left = lits[1];
-    let joined = lits[k];
+    let (_, left) = store.pair(s);
+    let joined = store.lits(s)[k];
     let ends = ends_of(store, backs, left, s);
     join(store, heads, backs, ends);
     store.swap(s, 1, k);

@@ -54,6 +54,18 @@ fn behind(watches: &Watches, id: u64, l: Lit) -> Option<Slot> {
     }
 }
 
+/// The other literal that the clause of an id watches, None where it isn't in a literal's chain.
+fn other(watches: &Watches, id: u64, l: Lit) -> Option<Lit> {
+    match watches.find(id) {
+        Some(s) => if is_in(watches, s, l) {
+            Some(watches.other(s, l))
+        } else {
+            None
+        },
+        None => None,
+    }
+}
+
 /// Turns the clause of an id, if it has two literals.
 fn turn(watches: &mut Watches, id: u64) {
     if let Some(s) = watches.find(id) {
@@ -98,11 +110,15 @@ fn watches_are_turned_and_moved(rt: HostRuntime) -> Result<(), Fail> {
     watches.reserve(3)?;
     assert!(rt; add(&mut watches, 1, &[a, b, c]));
     assert!(rt; add(&mut watches, 3, &[c, a]));
+    assert!(rt; other(&watches, 1, a) == Some(b));
+    assert!(rt; other(&watches, 1, b) == Some(a));
     turn(&mut watches, 3);
     assert!(rt; behind(&watches, 3, a) == watches.find(1));
     assert!(rt; first(&watches, c) == watches.find(3));
     move_second(&mut watches, 1);
     assert!(rt; first(&watches, b).is_none());
+    assert!(rt; other(&watches, 1, a) == Some(c));
+    assert!(rt; other(&watches, 1, b).is_none());
     assert!(rt; first(&watches, c) == watches.find(1));
     assert!(rt; behind(&watches, 1, c) == watches.find(3));
     assert!(rt; watches.weaken(1) == Ok(()));

@@ -1,5 +1,4 @@
-use Rattle.std.proofs.Common.{◌≡◌, sym, subst, ◌∙◌, ap, length, eqb-true}
-use Rattle.std.specs.List.Sorted.{IsStrictlyIncreasing}
+use Rattle.std.proofs.Common.{sym, ◌∙◌, ap, length, eqb-true}
 use Rattle.clause_store.proofs.Lists.{is_set-from, is_set-size, is_set-all}
 use Rattle.clause_store.proofs.index.is_set.Goals as goal
 

@@ -11,7 +11,7 @@ ids-init g c = record {
   line = refl;
   standing = refl;
   ended = λ e. e;
-  told = rw c.new-ids.ensures (told_at_start (ahead c.args.window.now (g.S.Source.left c.args.src.now)) (λ t u. Collects id_list [] c.args.window.now t c.args.window.now u) (Collects-start id_list c.args.window.now));
+  told = rw c.empty_ids-ids.ensures (told_at_start (ahead c.args.window.now (g.S.Source.left c.args.src.now)) (λ t u. Collects id_list [] c.args.window.now t c.args.window.now u) (Collects-start id_list c.args.window.now));
   count = omega arith;
 }
 

@@ -11,7 +11,7 @@ literals-init g c = record {
   line = refl;
   standing = refl;
   ended = λ e. e;
-  told = rw c.new-lits.ensures (told_at_start (ahead c.args.window.now (g.S.Source.left c.args.src.now)) (λ t u. Collects literal_list [] c.args.window.now t c.args.window.now u) (Collects-start literal_list c.args.window.now));
+  told = rw c.empty_literals-lits.ensures (told_at_start (ahead c.args.window.now (g.S.Source.left c.args.src.now)) (λ t u. Collects literal_list [] c.args.window.now t c.args.window.now u) (Collects-start literal_list c.args.window.now));
   count = omega arith;
 }
 

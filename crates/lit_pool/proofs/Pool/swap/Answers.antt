@@ -1,4 +1,4 @@
-use Rattle.std.proofs.Common.{◌≡◌, length, swap, refl, ap, ◌∙◌, arith}
+use Rattle.std.proofs.Common.{length, swap, refl, ap, ◌∙◌, arith}
 use Rattle.std.specs.FinMap.{len}
 use Rattle.lit_pool.specs.Entry.{Entry, entry_at}
 use Rattle.lit_pool.proofs.RowsMap.{found, len_replaced}

@@ -1,10 +1,9 @@
-use Rattle.std.proofs.Common.{◌≡◌, ℕ, ◌≤◌, ◌++◌, ◌∷◌, [], length, true, false, Some, sym, subst, ap, ◌∙◌, arith, refl}
+use Rattle.std.proofs.Common.{◌≡◌, ◌≤◌, ◌++◌, ◌∷◌, [], Some, sym, subst, ap, ◌∙◌, arith}
 use Rattle.std.specs.Vec.{vec_capacity}
 use Rattle.lits.specs.Literal.{var}
 use Rattle.lits.proofs.Members.{has_at}
 use Rattle.clause_store.specs.Clauses.{slot_at}
-use Rattle.propagation.specs.Clauses.{clauses_of}
-use Rattle.propagation.specs.Engine.{level_after, with_clauses, active_clause}
+use Rattle.propagation.specs.Engine.{level_after, with_clauses}
 use Rattle.propagation.specs.Watching.{engine_of}
 use Rattle.propagation.specs.Inside.{IsInside}
 use Rattle.propagation.proofs.Changes.{free_seen, slot_inserted, value_put, slot_of-seen}

@@ -1,4 +1,4 @@
-use Rattle.std.proofs.Common.{◌≡◌, ℕ, ◌<◌, ◌≤◌, ◌+◌, length, arith, sym, subst, ap, ◌∙◌}
+use Rattle.std.proofs.Common.{◌≡◌, ◌<◌, length, arith, ap, ◌∙◌}
 use Rattle.propagation.specs.Watching.{engine_of}
 use Rattle.propagation.proofs.Trail.{trail-le, length-literals}
 use Rattle.propagation.proofs.Advancing.{advances_then, length_longer}

@@ -1,4 +1,4 @@
-use Rattle.std.proofs.Common.{ℕ, ◌≤◌, ◌-◌, [], length}
+use Rattle.std.proofs.Common.{◌≤◌, ◌-◌, [], length}
 use Rattle.propagation.specs.Engine.{literals}
 use Rattle.propagation.specs.Watching.{Advances, IsReady}
 use Rattle.propagation.proofs.watching.advance.Given as goal

@@ -1,7 +1,7 @@
-use Rattle.std.proofs.Common.{◌≡◌, ℕ, List, [], Option, Some, None, refl, sym, ap, ◌∙◌, length, true}
+use Rattle.std.proofs.Common.{◌≡◌, [], Option, Some, None, refl, sym, ap, ◌∙◌, length}
 use Rattle.std.specs.Prelude.{nat_lt, option_map, unwrap_or}
 use Rattle.std.proofs.lemmas.Option.{none-some}
-use Rattle.clause_store.specs.Clauses.{Place, slot_at, lits_at, place_at}
+use Rattle.clause_store.specs.Clauses.{Place, lits_at, place_at}
 use Rattle.propagation.proofs.watching.is_short.Goals as goal
 
 no_list : (o : Option Place) → option_map (λ p. p.slot) o ≡ None → unwrap_or (option_map (λ p. p.lits) o) [] ≡ []

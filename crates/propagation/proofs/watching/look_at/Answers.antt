@@ -1,4 +1,4 @@
-use Rattle.std.proofs.Common.{◌≡◌, ℕ, ◌≤◌, ◌<◌, length, arith, sym, refl}
+use Rattle.std.proofs.Common.{arith, refl}
 use Rattle.propagation.proofs.Advancing.{advances_then, ready_next, ready_still, length_longer}
 use Rattle.propagation.proofs.watching.look_at.Goals as goal
 

@@ -1,4 +1,4 @@
-use Rattle.std.proofs.Common.{◌≡◌, ℕ, ◌<◌, ◌≤◌, arith, ◌∙◌, sym, subst}
+use Rattle.std.proofs.Common.{◌∙◌}
 use Rattle.propagation.proofs.Reordering.{pair_put}
 use Rattle.propagation.proofs.watching.put_both.Goals as goal
 

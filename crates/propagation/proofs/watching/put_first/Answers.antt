@@ -1,4 +1,4 @@
-use Rattle.std.proofs.Common.{◌≡◌, ℕ, ◌<◌, ◌≤◌, arith, ◌∙◌, sym, subst}
+use Rattle.std.proofs.Common.{◌≤◌, arith, ◌∙◌}
 use Rattle.propagation.proofs.Reordering.{first_stays, first_turned}
 use Rattle.propagation.proofs.watching.put_first.Goals as goal
 

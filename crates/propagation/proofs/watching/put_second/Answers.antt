@@ -1,4 +1,4 @@
-use Rattle.std.proofs.Common.{◌≡◌, ℕ, ◌<◌, ◌≤◌, arith}
+use Rattle.std.proofs.Common.{◌≤◌, arith}
 use Rattle.propagation.proofs.Reordering.{second_stays, second_moved}
 use Rattle.propagation.proofs.watching.put_second.Goals as goal
 

@@ -1,8 +1,8 @@
-use Rattle.std.proofs.Common.{◌≡◌, ℕ, ◌+◌, ◌<◌, ◌≤◌, get_or, length, true, false, Some, sym, subst, ap, ◌∙◌, refl, arith, inl, inr, List}
+use Rattle.std.proofs.Common.{◌≡◌, ◌<◌, get_or, length, true, false, Some, sym, subst, ap, ◌∙◌, refl, arith, inr}
 use Rattle.std.proofs.lemmas.List.{get_or_default}
 use Rattle.lits.specs.Literal.{neg}
 use Rattle.session_rules.specs.Logic.{has}
-use Rattle.clause_store.specs.Clauses.{slot_at, lits_at}
+use Rattle.clause_store.specs.Clauses.{slot_at}
 use Rattle.propagation.specs.Engine.{literals}
 use Rattle.propagation.proofs.Settling.{Pairs, false_found, unit_found, has_place, pair_two, pair_moved, pair_chains}
 use Rattle.propagation.proofs.watching.settle.Goals as goal

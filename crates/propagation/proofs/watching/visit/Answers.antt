@@ -1,9 +1,4 @@
-use Rattle.std.proofs.Common.{◌≡◌, ℕ, true, false, Some, sym, subst, ap, ◌∙◌, refl, arith}
-use Rattle.propagation.specs.Clauses.{clauses_of}
-use Rattle.propagation.specs.Engine.{literals, IsFalseAt}
-use Rattle.propagation.specs.Watching.{engine_of, IsDone}
-use Rattle.clause_store.specs.Clauses.{slot_at, lits_at}
-use Rattle.propagation.proofs.Advancing.{advances_settled, advances_put, put_done, new_step}
+use Rattle.propagation.proofs.Advancing.{advances_put, new_step}
 use Rattle.propagation.proofs.watching.visit.Goals as goal
 
 pub put-requires : goal.put-requires

@@ -1,4 +1,4 @@
-use Rattle.std.proofs.Common.{◌≡◌, ℕ, ◌<◌, ◌≤◌, ◌+◌, length, arith, sym, subst, refl, Some, None, ap, ◌∙◌}
+use Rattle.std.proofs.Common.{◌<◌, length, arith, sym, subst, Some, None}
 use Rattle.watch_chains.specs.Chains.{chain_at}
 use Rattle.propagation.specs.Watching.{engine_of}
 use Rattle.propagation.proofs.Advancing.{length_longer}
@@ -18,32 +18,32 @@ loop-at-init c =
 pub behind-at-requires : goal.behind-at-requires
 behind-at-requires c = walking_here c.args.watches.now c.loop-at.watches c.args.trail.now c.loop-at.trail c.args.head c.neg-w.result c.in-Some.slot (subst (λ z. IsWalking c.args.watches.now c.loop-at.watches c.args.trail.now c.loop-at.trail c.args.head c.neg-w.result z) c.in-Some.is c.loop-at.invariant)
 
-pub visit-requires-clause-slot : goal.visit-requires-clause-slot
-visit-requires-clause-slot c = c.behind-at.ensures.sound.slots c.neg-w.result c.in-Some.slot (walking_here c.args.watches.now c.loop-at.watches c.args.trail.now c.loop-at.trail c.args.head c.neg-w.result c.in-Some.slot (subst (λ z. IsWalking c.args.watches.now c.loop-at.watches c.args.trail.now c.loop-at.trail c.args.head c.neg-w.result z) c.in-Some.is c.loop-at.invariant))
+pub visit_watching-requires-clause-watched : goal.visit_watching-requires-clause-watched
+visit_watching-requires-clause-watched c = walking_here c.args.watches.now c.loop-at.watches c.args.trail.now c.loop-at.trail c.args.head c.neg-w.result c.in-Some.slot (subst (λ z. IsWalking c.args.watches.now c.loop-at.watches c.args.trail.now c.loop-at.trail c.args.head c.neg-w.result z) c.in-Some.is c.loop-at.invariant)
 
-pub returns-then-visit-clause-steps : goal.returns-then-visit-clause-steps
-returns-then-visit-clause-steps c =
+pub returns-then-visit_watching-clause-steps : goal.returns-then-visit_watching-clause-steps
+returns-then-visit_watching-clause-steps c =
     let walking : IsWalking c.args.watches.now c.loop-at.watches c.args.trail.now c.loop-at.trail c.args.head c.neg-w.result (Some c.in-Some.slot) = subst (λ z. IsWalking c.args.watches.now c.loop-at.watches c.args.trail.now c.loop-at.trail c.args.head c.neg-w.result z) c.in-Some.is c.loop-at.invariant in
     let longer = length_longer c.args.watches.now c.loop-at.watches c.args.trail.now c.loop-at.trail walking.steps in
-    let v : Visits c.args.watches.now c.loop-at.watches c.visit.new.watches c.args.trail.now c.loop-at.trail c.visit.new.trail c.args.head c.neg-w.result c.in-Some.slot = record {
+    let v : Visits c.args.watches.now c.loop-at.watches c.visit_watching.new.watches c.args.trail.now c.loop-at.trail c.visit_watching.new.trail c.args.head c.neg-w.result c.in-Some.slot = record {
       walking = walking;
-      steps = c.visit.ensures.steps;
+      steps = c.visit_watching.ensures.steps;
       within = omega (arith, longer, c.requires.head);
-      sound = c.visit.ensures.sound;
-      chains = c.visit.ensures.chains c.neg-w.result walking.falsified;
+      sound = c.visit_watching.ensures.sound;
+      chains = c.visit_watching.ensures.chains c.neg-w.result walking.falsified;
     } in
     visits_steps _ _ _ _ _ _ _ _ _ v
 
-pub returns-then-visit-clause-ready : goal.returns-then-visit-clause-ready
-returns-then-visit-clause-ready c =
+pub returns-then-visit_watching-clause-ready : goal.returns-then-visit_watching-clause-ready
+returns-then-visit_watching-clause-ready c =
     let walking : IsWalking c.args.watches.now c.loop-at.watches c.args.trail.now c.loop-at.trail c.args.head c.neg-w.result (Some c.in-Some.slot) = subst (λ z. IsWalking c.args.watches.now c.loop-at.watches c.args.trail.now c.loop-at.trail c.args.head c.neg-w.result z) c.in-Some.is c.loop-at.invariant in
     let longer = length_longer c.args.watches.now c.loop-at.watches c.args.trail.now c.loop-at.trail walking.steps in
-    let v : Visits c.args.watches.now c.loop-at.watches c.visit.new.watches c.args.trail.now c.loop-at.trail c.visit.new.trail c.args.head c.neg-w.result c.in-Some.slot = record {
+    let v : Visits c.args.watches.now c.loop-at.watches c.visit_watching.new.watches c.args.trail.now c.loop-at.trail c.visit_watching.new.trail c.args.head c.neg-w.result c.in-Some.slot = record {
       walking = walking;
-      steps = c.visit.ensures.steps;
+      steps = c.visit_watching.ensures.steps;
       within = omega (arith, longer, c.requires.head);
-      sound = c.visit.ensures.sound;
-      chains = c.visit.ensures.chains c.neg-w.result walking.falsified;
+      sound = c.visit_watching.ensures.sound;
+      chains = c.visit_watching.ensures.chains c.neg-w.result walking.falsified;
     } in
     visits_ready _ _ _ _ _ _ _ _ _ v
 
@@ -51,27 +51,27 @@ pub loop-at-preserved : goal.loop-at-preserved
 loop-at-preserved c =
     let walking : IsWalking c.args.watches.now c.loop-at.watches c.args.trail.now c.loop-at.trail c.args.head c.neg-w.result (Some c.in-Some.slot) = subst (λ z. IsWalking c.args.watches.now c.loop-at.watches c.args.trail.now c.loop-at.trail c.args.head c.neg-w.result z) c.in-Some.is c.loop-at.invariant in
     let longer = length_longer c.args.watches.now c.loop-at.watches c.args.trail.now c.loop-at.trail walking.steps in
-    let v : Visits c.args.watches.now c.loop-at.watches c.visit.new.watches c.args.trail.now c.loop-at.trail c.visit.new.trail c.args.head c.neg-w.result c.in-Some.slot = record {
+    let v : Visits c.args.watches.now c.loop-at.watches c.visit_watching.new.watches c.args.trail.now c.loop-at.trail c.visit_watching.new.trail c.args.head c.neg-w.result c.in-Some.slot = record {
       walking = walking;
-      steps = c.visit.ensures.steps;
+      steps = c.visit_watching.ensures.steps;
       within = omega (arith, longer, c.requires.head);
-      sound = c.visit.ensures.sound;
-      chains = c.visit.ensures.chains c.neg-w.result walking.falsified;
+      sound = c.visit_watching.ensures.sound;
+      chains = c.visit_watching.ensures.chains c.neg-w.result walking.falsified;
     } in
-    visits_next _ _ _ _ _ _ _ _ _ v c.behind-at.result c.behind-at.ensures.behind (c.visit.ensures.no c.if-visit.false)
+    visits_next _ _ _ _ _ _ _ _ _ v c.behind-at.result c.behind-at.ensures.behind (c.visit_watching.ensures.no c.if-visit_watching.false)
 
 pub loop-at-smaller : goal.loop-at-smaller
 loop-at-smaller c =
     let walking : IsWalking c.args.watches.now c.loop-at.watches c.args.trail.now c.loop-at.trail c.args.head c.neg-w.result (Some c.in-Some.slot) = subst (λ z. IsWalking c.args.watches.now c.loop-at.watches c.args.trail.now c.loop-at.trail c.args.head c.neg-w.result z) c.in-Some.is c.loop-at.invariant in
     let longer = length_longer c.args.watches.now c.loop-at.watches c.args.trail.now c.loop-at.trail walking.steps in
-    let v : Visits c.args.watches.now c.loop-at.watches c.visit.new.watches c.args.trail.now c.loop-at.trail c.visit.new.trail c.args.head c.neg-w.result c.in-Some.slot = record {
+    let v : Visits c.args.watches.now c.loop-at.watches c.visit_watching.new.watches c.args.trail.now c.loop-at.trail c.visit_watching.new.trail c.args.head c.neg-w.result c.in-Some.slot = record {
       walking = walking;
-      steps = c.visit.ensures.steps;
+      steps = c.visit_watching.ensures.steps;
       within = omega (arith, longer, c.requires.head);
-      sound = c.visit.ensures.sound;
-      chains = c.visit.ensures.chains c.neg-w.result walking.falsified;
+      sound = c.visit_watching.ensures.sound;
+      chains = c.visit_watching.ensures.chains c.neg-w.result walking.falsified;
     } in
-    subst (λ z. length (to_come c.behind-at.result (chain_at c.visit.new.watches.chains c.neg-w.result)) < length (to_come z (chain_at c.loop-at.watches.chains c.neg-w.result))) (sym c.in-Some.is) (visits_fewer _ _ _ _ _ _ _ _ _ v c.behind-at.result c.behind-at.ensures.behind)
+    subst (λ z. length (to_come c.behind-at.result (chain_at c.visit_watching.new.watches.chains c.neg-w.result)) < length (to_come z (chain_at c.loop-at.watches.chains c.neg-w.result))) (sym c.in-Some.is) (visits_fewer _ _ _ _ _ _ _ _ _ v c.behind-at.result c.behind-at.ensures.behind)
 
 pub returns-clause-done : goal.returns-clause-done
 returns-clause-done c =

@@ -1,4 +1,4 @@
-use Rattle.std.proofs.Common.{ℕ, length}
+use Rattle.std.proofs.Common.{length}
 use Rattle.watch_chains.specs.Chains.{chain_at}
 use Rattle.propagation.proofs.Walking.{IsWalking, to_come}
 use Rattle.propagation.proofs.watching.walk.Given as goal

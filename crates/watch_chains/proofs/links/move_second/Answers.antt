@@ -9,112 +9,103 @@ use Rattle.watch_chains.proofs.links.move_second.Goals as goal
 
 pub join-requires-clause-behind : goal.join-requires-clause-behind
 join-requires-clause-behind c =
-    let read : lits_of c.args.store.now c.args.s ≡ c.lits-lits.result.now = c.lits-lits.ensures (id_at c.args.store.now c.args.s) c.requires.1.slot in
-    let inb : c.args.k < length c.lits-lits.result.now = subst (λ z. c.args.k < length z) read c.requires.1.in_bounds in
-    let far : 2 ≤ c.args.k = c.requires.1.later in
-    let second : c.index-lits-1.result ≡ slice_index (lits_of c.args.store.now c.args.s) 1 = get_or_read c.lits-lits.result.now 1 c.index-lits-1.result (omega arith) c.index-lits-1.is 0 ∙ ap (λ z. slice_index z 1) (sym read) in
-    let later : c.index-lits-k.result ≡ slice_index (lits_of c.args.store.now c.args.s) c.args.k = get_or_read c.lits-lits.result.now c.args.k c.index-lits-k.result inb c.index-lits-k.is 0 ∙ ap (λ z. slice_index z c.args.k) (sym read) in
-    subst (λ e. IfSome e.next (λ t. IsMember c.args.store.now e.lit t × (t < length c.args.backs.now.items))) (sym c.ends_of-ends.ensures) (behind-a c.args.store.now c.args.heads.now.items c.args.backs.now.items c.args.s c.args.k c.requires.0 c.requires.1 c.index-lits-1.result c.index-lits-k.result second later)
+    let read : lits_of c.args.store.now c.args.s ≡ c.lits.result.now = c.lits.ensures (id_at c.args.store.now c.args.s) c.requires.1.slot in
+    let inb : c.args.k < length c.lits.result.now = subst (λ z. c.args.k < length z) read c.requires.1.in_bounds in
+    let second : c.pair-left.result.1 ≡ slice_index (lits_of c.args.store.now c.args.s) 1 = (c.pair-left.ensures (id_at c.args.store.now c.args.s) c.requires.1.slot).1 in
+    let later : c.index-lits-k.result ≡ slice_index (lits_of c.args.store.now c.args.s) c.args.k = get_or_read c.lits.result.now c.args.k c.index-lits-k.result inb c.index-lits-k.is 0 ∙ ap (λ z. slice_index z c.args.k) (sym read) in
+    subst (λ e. IfSome e.next (λ t. IsMember c.args.store.now e.lit t × (t < length c.args.backs.now.items))) (sym c.ends_of-ends.ensures) (behind-a c.args.store.now c.args.heads.now.items c.args.backs.now.items c.args.s c.args.k c.requires.0 c.requires.1 c.pair-left.result.1 c.index-lits-k.result second later)
 
 pub join-requires-clause-before : goal.join-requires-clause-before
 join-requires-clause-before c =
-    let read : lits_of c.args.store.now c.args.s ≡ c.lits-lits.result.now = c.lits-lits.ensures (id_at c.args.store.now c.args.s) c.requires.1.slot in
-    let inb : c.args.k < length c.lits-lits.result.now = subst (λ z. c.args.k < length z) read c.requires.1.in_bounds in
-    let far : 2 ≤ c.args.k = c.requires.1.later in
-    let second : c.index-lits-1.result ≡ slice_index (lits_of c.args.store.now c.args.s) 1 = get_or_read c.lits-lits.result.now 1 c.index-lits-1.result (omega arith) c.index-lits-1.is 0 ∙ ap (λ z. slice_index z 1) (sym read) in
-    let later : c.index-lits-k.result ≡ slice_index (lits_of c.args.store.now c.args.s) c.args.k = get_or_read c.lits-lits.result.now c.args.k c.index-lits-k.result inb c.index-lits-k.is 0 ∙ ap (λ z. slice_index z c.args.k) (sym read) in
-    subst (λ e. IfSome e.back (IsMember c.args.store.now e.lit)) (sym c.ends_of-ends.ensures) (before-a c.args.store.now c.args.heads.now.items c.args.backs.now.items c.args.s c.args.k c.requires.0 c.requires.1 c.index-lits-1.result c.index-lits-k.result second later)
+    let read : lits_of c.args.store.now c.args.s ≡ c.lits.result.now = c.lits.ensures (id_at c.args.store.now c.args.s) c.requires.1.slot in
+    let inb : c.args.k < length c.lits.result.now = subst (λ z. c.args.k < length z) read c.requires.1.in_bounds in
+    let second : c.pair-left.result.1 ≡ slice_index (lits_of c.args.store.now c.args.s) 1 = (c.pair-left.ensures (id_at c.args.store.now c.args.s) c.requires.1.slot).1 in
+    let later : c.index-lits-k.result ≡ slice_index (lits_of c.args.store.now c.args.s) c.args.k = get_or_read c.lits.result.now c.args.k c.index-lits-k.result inb c.index-lits-k.is 0 ∙ ap (λ z. slice_index z c.args.k) (sym read) in
+    subst (λ e. IfSome e.back (IsMember c.args.store.now e.lit)) (sym c.ends_of-ends.ensures) (before-a c.args.store.now c.args.heads.now.items c.args.backs.now.items c.args.s c.args.k c.requires.0 c.requires.1 c.pair-left.result.1 c.index-lits-k.result second later)
 
 pub join-requires-clause-reserved : goal.join-requires-clause-reserved
 join-requires-clause-reserved c =
-    let read : lits_of c.args.store.now c.args.s ≡ c.lits-lits.result.now = c.lits-lits.ensures (id_at c.args.store.now c.args.s) c.requires.1.slot in
-    let inb : c.args.k < length c.lits-lits.result.now = subst (λ z. c.args.k < length z) read c.requires.1.in_bounds in
-    let far : 2 ≤ c.args.k = c.requires.1.later in
-    let second : c.index-lits-1.result ≡ slice_index (lits_of c.args.store.now c.args.s) 1 = get_or_read c.lits-lits.result.now 1 c.index-lits-1.result (omega arith) c.index-lits-1.is 0 ∙ ap (λ z. slice_index z 1) (sym read) in
-    let later : c.index-lits-k.result ≡ slice_index (lits_of c.args.store.now c.args.s) c.args.k = get_or_read c.lits-lits.result.now c.args.k c.index-lits-k.result inb c.index-lits-k.is 0 ∙ ap (λ z. slice_index z c.args.k) (sym read) in
-    subst (λ e. e.lit < length c.args.heads.now.items) (sym c.ends_of-ends.ensures) (reserved-a c.args.store.now c.args.heads.now.items c.args.backs.now.items c.args.s c.args.k c.requires.0 c.requires.1 c.index-lits-1.result c.index-lits-k.result second later)
+    let read : lits_of c.args.store.now c.args.s ≡ c.lits.result.now = c.lits.ensures (id_at c.args.store.now c.args.s) c.requires.1.slot in
+    let inb : c.args.k < length c.lits.result.now = subst (λ z. c.args.k < length z) read c.requires.1.in_bounds in
+    let second : c.pair-left.result.1 ≡ slice_index (lits_of c.args.store.now c.args.s) 1 = (c.pair-left.ensures (id_at c.args.store.now c.args.s) c.requires.1.slot).1 in
+    let later : c.index-lits-k.result ≡ slice_index (lits_of c.args.store.now c.args.s) c.args.k = get_or_read c.lits.result.now c.args.k c.index-lits-k.result inb c.index-lits-k.is 0 ∙ ap (λ z. slice_index z c.args.k) (sym read) in
+    subst (λ e. e.lit < length c.args.heads.now.items) (sym c.ends_of-ends.ensures) (reserved-a c.args.store.now c.args.heads.now.items c.args.backs.now.items c.args.s c.args.k c.requires.0 c.requires.1 c.pair-left.result.1 c.index-lits-k.result second later)
 
 pub swap-requires-clause-slot : goal.swap-requires-clause-slot
 swap-requires-clause-slot c =
-    let read : lits_of c.args.store.now c.args.s ≡ c.lits-lits.result.now = c.lits-lits.ensures (id_at c.args.store.now c.args.s) c.requires.1.slot in
-    let inb : c.args.k < length c.lits-lits.result.now = subst (λ z. c.args.k < length z) read c.requires.1.in_bounds in
-    let far : 2 ≤ c.args.k = c.requires.1.later in
-    let second : c.index-lits-1.result ≡ slice_index (lits_of c.args.store.now c.args.s) 1 = get_or_read c.lits-lits.result.now 1 c.index-lits-1.result (omega arith) c.index-lits-1.is 0 ∙ ap (λ z. slice_index z 1) (sym read) in
-    let later : c.index-lits-k.result ≡ slice_index (lits_of c.args.store.now c.args.s) c.args.k = get_or_read c.lits-lits.result.now c.args.k c.index-lits-k.result inb c.index-lits-k.is 0 ∙ ap (λ z. slice_index z c.args.k) (sym read) in
-    let j : Joined c.args.store.now c.join.new.store c.args.heads.now.items c.join.new.heads.items c.args.backs.now.items c.join.new.backs.items (record { lit = c.index-lits-1.result; next = next_in c.args.store.now c.index-lits-1.result c.args.s; back = back_in c.args.store.now c.args.backs.now.items c.index-lits-1.result c.args.s }) = record { links = c.join.ensures.links ∙ ap (λ e. joined_store c.args.store.now e.lit e.next e.back) c.ends_of-ends.ensures; heads_are = c.join.ensures.heads ∙ ap (λ e. joined_heads c.args.heads.now.items e.lit e.next e.back) c.ends_of-ends.ensures; backs_are = c.join.ensures.backs ∙ ap (λ e. joined_backs c.args.store.now c.args.backs.now.items e.lit e.next e.back) c.ends_of-ends.ensures } in
-    (id_at c.args.store.now c.args.s, slot-out c.args.store.now c.args.heads.now.items c.args.backs.now.items c.args.s c.args.k c.requires.0 c.requires.1 c.index-lits-1.result c.index-lits-k.result second later c.join.new.store c.join.new.heads.items c.join.new.backs.items j)
+    let read : lits_of c.args.store.now c.args.s ≡ c.lits.result.now = c.lits.ensures (id_at c.args.store.now c.args.s) c.requires.1.slot in
+    let inb : c.args.k < length c.lits.result.now = subst (λ z. c.args.k < length z) read c.requires.1.in_bounds in
+    let second : c.pair-left.result.1 ≡ slice_index (lits_of c.args.store.now c.args.s) 1 = (c.pair-left.ensures (id_at c.args.store.now c.args.s) c.requires.1.slot).1 in
+    let later : c.index-lits-k.result ≡ slice_index (lits_of c.args.store.now c.args.s) c.args.k = get_or_read c.lits.result.now c.args.k c.index-lits-k.result inb c.index-lits-k.is 0 ∙ ap (λ z. slice_index z c.args.k) (sym read) in
+    let j : Joined c.args.store.now c.join.new.store c.args.heads.now.items c.join.new.heads.items c.args.backs.now.items c.join.new.backs.items (record { lit = c.pair-left.result.1; next = next_in c.args.store.now c.pair-left.result.1 c.args.s; back = back_in c.args.store.now c.args.backs.now.items c.pair-left.result.1 c.args.s }) = record { links = c.join.ensures.links ∙ ap (λ e. joined_store c.args.store.now e.lit e.next e.back) c.ends_of-ends.ensures; heads_are = c.join.ensures.heads ∙ ap (λ e. joined_heads c.args.heads.now.items e.lit e.next e.back) c.ends_of-ends.ensures; backs_are = c.join.ensures.backs ∙ ap (λ e. joined_backs c.args.store.now c.args.backs.now.items e.lit e.next e.back) c.ends_of-ends.ensures } in
+    (id_at c.args.store.now c.args.s, slot-out c.args.store.now c.args.heads.now.items c.args.backs.now.items c.args.s c.args.k c.requires.0 c.requires.1 c.pair-left.result.1 c.index-lits-k.result second later c.join.new.store c.join.new.heads.items c.join.new.backs.items j)
 
 pub swap-requires-clause-a_in_bounds : goal.swap-requires-clause-a_in_bounds
 swap-requires-clause-a_in_bounds c = λ q e.
-    let read : lits_of c.args.store.now c.args.s ≡ c.lits-lits.result.now = c.lits-lits.ensures (id_at c.args.store.now c.args.s) c.requires.1.slot in
-    let inb : c.args.k < length c.lits-lits.result.now = subst (λ z. c.args.k < length z) read c.requires.1.in_bounds in
+    let read : lits_of c.args.store.now c.args.s ≡ c.lits.result.now = c.lits.ensures (id_at c.args.store.now c.args.s) c.requires.1.slot in
+    let inb : c.args.k < length c.lits.result.now = subst (λ z. c.args.k < length z) read c.requires.1.in_bounds in
     let far : 2 ≤ c.args.k = c.requires.1.later in
-    let second : c.index-lits-1.result ≡ slice_index (lits_of c.args.store.now c.args.s) 1 = get_or_read c.lits-lits.result.now 1 c.index-lits-1.result (omega arith) c.index-lits-1.is 0 ∙ ap (λ z. slice_index z 1) (sym read) in
-    let later : c.index-lits-k.result ≡ slice_index (lits_of c.args.store.now c.args.s) c.args.k = get_or_read c.lits-lits.result.now c.args.k c.index-lits-k.result inb c.index-lits-k.is 0 ∙ ap (λ z. slice_index z c.args.k) (sym read) in
-    let j : Joined c.args.store.now c.join.new.store c.args.heads.now.items c.join.new.heads.items c.args.backs.now.items c.join.new.backs.items (record { lit = c.index-lits-1.result; next = next_in c.args.store.now c.index-lits-1.result c.args.s; back = back_in c.args.store.now c.args.backs.now.items c.index-lits-1.result c.args.s }) = record { links = c.join.ensures.links ∙ ap (λ e. joined_store c.args.store.now e.lit e.next e.back) c.ends_of-ends.ensures; heads_are = c.join.ensures.heads ∙ ap (λ e. joined_heads c.args.heads.now.items e.lit e.next e.back) c.ends_of-ends.ensures; backs_are = c.join.ensures.backs ∙ ap (λ e. joined_backs c.args.store.now c.args.backs.now.items e.lit e.next e.back) c.ends_of-ends.ensures } in
-    long-out c.args.store.now c.args.heads.now.items c.args.backs.now.items c.args.s c.args.k c.requires.0 c.requires.1 c.index-lits-1.result c.index-lits-k.result second later c.join.new.store c.join.new.heads.items c.join.new.backs.items j q 1 (omega arith) e
+    let second : c.pair-left.result.1 ≡ slice_index (lits_of c.args.store.now c.args.s) 1 = (c.pair-left.ensures (id_at c.args.store.now c.args.s) c.requires.1.slot).1 in
+    let later : c.index-lits-k.result ≡ slice_index (lits_of c.args.store.now c.args.s) c.args.k = get_or_read c.lits.result.now c.args.k c.index-lits-k.result inb c.index-lits-k.is 0 ∙ ap (λ z. slice_index z c.args.k) (sym read) in
+    let j : Joined c.args.store.now c.join.new.store c.args.heads.now.items c.join.new.heads.items c.args.backs.now.items c.join.new.backs.items (record { lit = c.pair-left.result.1; next = next_in c.args.store.now c.pair-left.result.1 c.args.s; back = back_in c.args.store.now c.args.backs.now.items c.pair-left.result.1 c.args.s }) = record { links = c.join.ensures.links ∙ ap (λ e. joined_store c.args.store.now e.lit e.next e.back) c.ends_of-ends.ensures; heads_are = c.join.ensures.heads ∙ ap (λ e. joined_heads c.args.heads.now.items e.lit e.next e.back) c.ends_of-ends.ensures; backs_are = c.join.ensures.backs ∙ ap (λ e. joined_backs c.args.store.now c.args.backs.now.items e.lit e.next e.back) c.ends_of-ends.ensures } in
+    long-out c.args.store.now c.args.heads.now.items c.args.backs.now.items c.args.s c.args.k c.requires.0 c.requires.1 c.pair-left.result.1 c.index-lits-k.result second later c.join.new.store c.join.new.heads.items c.join.new.backs.items j q 1 (omega arith) e
 
 pub swap-requires-clause-b_in_bounds : goal.swap-requires-clause-b_in_bounds
 swap-requires-clause-b_in_bounds c = λ q e.
-    let read : lits_of c.args.store.now c.args.s ≡ c.lits-lits.result.now = c.lits-lits.ensures (id_at c.args.store.now c.args.s) c.requires.1.slot in
-    let inb : c.args.k < length c.lits-lits.result.now = subst (λ z. c.args.k < length z) read c.requires.1.in_bounds in
+    let read : lits_of c.args.store.now c.args.s ≡ c.lits.result.now = c.lits.ensures (id_at c.args.store.now c.args.s) c.requires.1.slot in
+    let inb : c.args.k < length c.lits.result.now = subst (λ z. c.args.k < length z) read c.requires.1.in_bounds in
     let far : 2 ≤ c.args.k = c.requires.1.later in
-    let second : c.index-lits-1.result ≡ slice_index (lits_of c.args.store.now c.args.s) 1 = get_or_read c.lits-lits.result.now 1 c.index-lits-1.result (omega arith) c.index-lits-1.is 0 ∙ ap (λ z. slice_index z 1) (sym read) in
-    let later : c.index-lits-k.result ≡ slice_index (lits_of c.args.store.now c.args.s) c.args.k = get_or_read c.lits-lits.result.now c.args.k c.index-lits-k.result inb c.index-lits-k.is 0 ∙ ap (λ z. slice_index z c.args.k) (sym read) in
-    let j : Joined c.args.store.now c.join.new.store c.args.heads.now.items c.join.new.heads.items c.args.backs.now.items c.join.new.backs.items (record { lit = c.index-lits-1.result; next = next_in c.args.store.now c.index-lits-1.result c.args.s; back = back_in c.args.store.now c.args.backs.now.items c.index-lits-1.result c.args.s }) = record { links = c.join.ensures.links ∙ ap (λ e. joined_store c.args.store.now e.lit e.next e.back) c.ends_of-ends.ensures; heads_are = c.join.ensures.heads ∙ ap (λ e. joined_heads c.args.heads.now.items e.lit e.next e.back) c.ends_of-ends.ensures; backs_are = c.join.ensures.backs ∙ ap (λ e. joined_backs c.args.store.now c.args.backs.now.items e.lit e.next e.back) c.ends_of-ends.ensures } in
-    long-out c.args.store.now c.args.heads.now.items c.args.backs.now.items c.args.s c.args.k c.requires.0 c.requires.1 c.index-lits-1.result c.index-lits-k.result second later c.join.new.store c.join.new.heads.items c.join.new.backs.items j q c.args.k (omega arith) e
+    let second : c.pair-left.result.1 ≡ slice_index (lits_of c.args.store.now c.args.s) 1 = (c.pair-left.ensures (id_at c.args.store.now c.args.s) c.requires.1.slot).1 in
+    let later : c.index-lits-k.result ≡ slice_index (lits_of c.args.store.now c.args.s) c.args.k = get_or_read c.lits.result.now c.args.k c.index-lits-k.result inb c.index-lits-k.is 0 ∙ ap (λ z. slice_index z c.args.k) (sym read) in
+    let j : Joined c.args.store.now c.join.new.store c.args.heads.now.items c.join.new.heads.items c.args.backs.now.items c.join.new.backs.items (record { lit = c.pair-left.result.1; next = next_in c.args.store.now c.pair-left.result.1 c.args.s; back = back_in c.args.store.now c.args.backs.now.items c.pair-left.result.1 c.args.s }) = record { links = c.join.ensures.links ∙ ap (λ e. joined_store c.args.store.now e.lit e.next e.back) c.ends_of-ends.ensures; heads_are = c.join.ensures.heads ∙ ap (λ e. joined_heads c.args.heads.now.items e.lit e.next e.back) c.ends_of-ends.ensures; backs_are = c.join.ensures.backs ∙ ap (λ e. joined_backs c.args.store.now c.args.backs.now.items e.lit e.next e.back) c.ends_of-ends.ensures } in
+    long-out c.args.store.now c.args.heads.now.items c.args.backs.now.items c.args.s c.args.k c.requires.0 c.requires.1 c.pair-left.result.1 c.index-lits-k.result second later c.join.new.store c.join.new.heads.items c.join.new.backs.items j q c.args.k (omega arith) e
 
 pub front-requires-clause-member : goal.front-requires-clause-member
 front-requires-clause-member c =
-    let read : lits_of c.args.store.now c.args.s ≡ c.lits-lits.result.now = c.lits-lits.ensures (id_at c.args.store.now c.args.s) c.requires.1.slot in
-    let inb : c.args.k < length c.lits-lits.result.now = subst (λ z. c.args.k < length z) read c.requires.1.in_bounds in
-    let far : 2 ≤ c.args.k = c.requires.1.later in
-    let second : c.index-lits-1.result ≡ slice_index (lits_of c.args.store.now c.args.s) 1 = get_or_read c.lits-lits.result.now 1 c.index-lits-1.result (omega arith) c.index-lits-1.is 0 ∙ ap (λ z. slice_index z 1) (sym read) in
-    let later : c.index-lits-k.result ≡ slice_index (lits_of c.args.store.now c.args.s) c.args.k = get_or_read c.lits-lits.result.now c.args.k c.index-lits-k.result inb c.index-lits-k.is 0 ∙ ap (λ z. slice_index z c.args.k) (sym read) in
-    let j : Joined c.args.store.now c.join.new.store c.args.heads.now.items c.join.new.heads.items c.args.backs.now.items c.join.new.backs.items (record { lit = c.index-lits-1.result; next = next_in c.args.store.now c.index-lits-1.result c.args.s; back = back_in c.args.store.now c.args.backs.now.items c.index-lits-1.result c.args.s }) = record { links = c.join.ensures.links ∙ ap (λ e. joined_store c.args.store.now e.lit e.next e.back) c.ends_of-ends.ensures; heads_are = c.join.ensures.heads ∙ ap (λ e. joined_heads c.args.heads.now.items e.lit e.next e.back) c.ends_of-ends.ensures; backs_are = c.join.ensures.backs ∙ ap (λ e. joined_backs c.args.store.now c.args.backs.now.items e.lit e.next e.back) c.ends_of-ends.ensures } in
-    let is : c.swap.new.self ≡ with_swap c.join.new.store (id_at c.args.store.now c.args.s) 1 c.args.k = c.swap.ensures (id_at c.args.store.now c.args.s) (slot-out c.args.store.now c.args.heads.now.items c.args.backs.now.items c.args.s c.args.k c.requires.0 c.requires.1 c.index-lits-1.result c.index-lits-k.result second later c.join.new.store c.join.new.heads.items c.join.new.backs.items j) in
-    member-b c.args.store.now c.args.heads.now.items c.args.backs.now.items c.args.s c.args.k c.requires.0 c.requires.1 c.index-lits-1.result c.index-lits-k.result second later c.join.new.store c.join.new.heads.items c.join.new.backs.items j c.swap.new.self is
+    let read : lits_of c.args.store.now c.args.s ≡ c.lits.result.now = c.lits.ensures (id_at c.args.store.now c.args.s) c.requires.1.slot in
+    let inb : c.args.k < length c.lits.result.now = subst (λ z. c.args.k < length z) read c.requires.1.in_bounds in
+    let second : c.pair-left.result.1 ≡ slice_index (lits_of c.args.store.now c.args.s) 1 = (c.pair-left.ensures (id_at c.args.store.now c.args.s) c.requires.1.slot).1 in
+    let later : c.index-lits-k.result ≡ slice_index (lits_of c.args.store.now c.args.s) c.args.k = get_or_read c.lits.result.now c.args.k c.index-lits-k.result inb c.index-lits-k.is 0 ∙ ap (λ z. slice_index z c.args.k) (sym read) in
+    let j : Joined c.args.store.now c.join.new.store c.args.heads.now.items c.join.new.heads.items c.args.backs.now.items c.join.new.backs.items (record { lit = c.pair-left.result.1; next = next_in c.args.store.now c.pair-left.result.1 c.args.s; back = back_in c.args.store.now c.args.backs.now.items c.pair-left.result.1 c.args.s }) = record { links = c.join.ensures.links ∙ ap (λ e. joined_store c.args.store.now e.lit e.next e.back) c.ends_of-ends.ensures; heads_are = c.join.ensures.heads ∙ ap (λ e. joined_heads c.args.heads.now.items e.lit e.next e.back) c.ends_of-ends.ensures; backs_are = c.join.ensures.backs ∙ ap (λ e. joined_backs c.args.store.now c.args.backs.now.items e.lit e.next e.back) c.ends_of-ends.ensures } in
+    let is : c.swap.new.self ≡ with_swap c.join.new.store (id_at c.args.store.now c.args.s) 1 c.args.k = c.swap.ensures (id_at c.args.store.now c.args.s) (slot-out c.args.store.now c.args.heads.now.items c.args.backs.now.items c.args.s c.args.k c.requires.0 c.requires.1 c.pair-left.result.1 c.index-lits-k.result second later c.join.new.store c.join.new.heads.items c.join.new.backs.items j) in
+    member-b c.args.store.now c.args.heads.now.items c.args.backs.now.items c.args.s c.args.k c.requires.0 c.requires.1 c.pair-left.result.1 c.index-lits-k.result second later c.join.new.store c.join.new.heads.items c.join.new.backs.items j c.swap.new.self is
 
 pub front-requires-clause-head : goal.front-requires-clause-head
 front-requires-clause-head c =
-    let read : lits_of c.args.store.now c.args.s ≡ c.lits-lits.result.now = c.lits-lits.ensures (id_at c.args.store.now c.args.s) c.requires.1.slot in
-    let inb : c.args.k < length c.lits-lits.result.now = subst (λ z. c.args.k < length z) read c.requires.1.in_bounds in
-    let far : 2 ≤ c.args.k = c.requires.1.later in
-    let second : c.index-lits-1.result ≡ slice_index (lits_of c.args.store.now c.args.s) 1 = get_or_read c.lits-lits.result.now 1 c.index-lits-1.result (omega arith) c.index-lits-1.is 0 ∙ ap (λ z. slice_index z 1) (sym read) in
-    let later : c.index-lits-k.result ≡ slice_index (lits_of c.args.store.now c.args.s) c.args.k = get_or_read c.lits-lits.result.now c.args.k c.index-lits-k.result inb c.index-lits-k.is 0 ∙ ap (λ z. slice_index z c.args.k) (sym read) in
-    let j : Joined c.args.store.now c.join.new.store c.args.heads.now.items c.join.new.heads.items c.args.backs.now.items c.join.new.backs.items (record { lit = c.index-lits-1.result; next = next_in c.args.store.now c.index-lits-1.result c.args.s; back = back_in c.args.store.now c.args.backs.now.items c.index-lits-1.result c.args.s }) = record { links = c.join.ensures.links ∙ ap (λ e. joined_store c.args.store.now e.lit e.next e.back) c.ends_of-ends.ensures; heads_are = c.join.ensures.heads ∙ ap (λ e. joined_heads c.args.heads.now.items e.lit e.next e.back) c.ends_of-ends.ensures; backs_are = c.join.ensures.backs ∙ ap (λ e. joined_backs c.args.store.now c.args.backs.now.items e.lit e.next e.back) c.ends_of-ends.ensures } in
-    let is : c.swap.new.self ≡ with_swap c.join.new.store (id_at c.args.store.now c.args.s) 1 c.args.k = c.swap.ensures (id_at c.args.store.now c.args.s) (slot-out c.args.store.now c.args.heads.now.items c.args.backs.now.items c.args.s c.args.k c.requires.0 c.requires.1 c.index-lits-1.result c.index-lits-k.result second later c.join.new.store c.join.new.heads.items c.join.new.backs.items j) in
-    head-b c.args.store.now c.args.heads.now.items c.args.backs.now.items c.args.s c.args.k c.requires.0 c.requires.1 c.index-lits-1.result c.index-lits-k.result second later c.join.new.store c.join.new.heads.items c.join.new.backs.items j c.swap.new.self is
+    let read : lits_of c.args.store.now c.args.s ≡ c.lits.result.now = c.lits.ensures (id_at c.args.store.now c.args.s) c.requires.1.slot in
+    let inb : c.args.k < length c.lits.result.now = subst (λ z. c.args.k < length z) read c.requires.1.in_bounds in
+    let second : c.pair-left.result.1 ≡ slice_index (lits_of c.args.store.now c.args.s) 1 = (c.pair-left.ensures (id_at c.args.store.now c.args.s) c.requires.1.slot).1 in
+    let later : c.index-lits-k.result ≡ slice_index (lits_of c.args.store.now c.args.s) c.args.k = get_or_read c.lits.result.now c.args.k c.index-lits-k.result inb c.index-lits-k.is 0 ∙ ap (λ z. slice_index z c.args.k) (sym read) in
+    let j : Joined c.args.store.now c.join.new.store c.args.heads.now.items c.join.new.heads.items c.args.backs.now.items c.join.new.backs.items (record { lit = c.pair-left.result.1; next = next_in c.args.store.now c.pair-left.result.1 c.args.s; back = back_in c.args.store.now c.args.backs.now.items c.pair-left.result.1 c.args.s }) = record { links = c.join.ensures.links ∙ ap (λ e. joined_store c.args.store.now e.lit e.next e.back) c.ends_of-ends.ensures; heads_are = c.join.ensures.heads ∙ ap (λ e. joined_heads c.args.heads.now.items e.lit e.next e.back) c.ends_of-ends.ensures; backs_are = c.join.ensures.backs ∙ ap (λ e. joined_backs c.args.store.now c.args.backs.now.items e.lit e.next e.back) c.ends_of-ends.ensures } in
+    let is : c.swap.new.self ≡ with_swap c.join.new.store (id_at c.args.store.now c.args.s) 1 c.args.k = c.swap.ensures (id_at c.args.store.now c.args.s) (slot-out c.args.store.now c.args.heads.now.items c.args.backs.now.items c.args.s c.args.k c.requires.0 c.requires.1 c.pair-left.result.1 c.index-lits-k.result second later c.join.new.store c.join.new.heads.items c.join.new.backs.items j) in
+    head-b c.args.store.now c.args.heads.now.items c.args.backs.now.items c.args.s c.args.k c.requires.0 c.requires.1 c.pair-left.result.1 c.index-lits-k.result second later c.join.new.store c.join.new.heads.items c.join.new.backs.items j c.swap.new.self is
 
 pub front-requires-clause-reserved : goal.front-requires-clause-reserved
 front-requires-clause-reserved c =
-    let read : lits_of c.args.store.now c.args.s ≡ c.lits-lits.result.now = c.lits-lits.ensures (id_at c.args.store.now c.args.s) c.requires.1.slot in
-    let inb : c.args.k < length c.lits-lits.result.now = subst (λ z. c.args.k < length z) read c.requires.1.in_bounds in
-    let far : 2 ≤ c.args.k = c.requires.1.later in
-    let second : c.index-lits-1.result ≡ slice_index (lits_of c.args.store.now c.args.s) 1 = get_or_read c.lits-lits.result.now 1 c.index-lits-1.result (omega arith) c.index-lits-1.is 0 ∙ ap (λ z. slice_index z 1) (sym read) in
-    let later : c.index-lits-k.result ≡ slice_index (lits_of c.args.store.now c.args.s) c.args.k = get_or_read c.lits-lits.result.now c.args.k c.index-lits-k.result inb c.index-lits-k.is 0 ∙ ap (λ z. slice_index z c.args.k) (sym read) in
-    let j : Joined c.args.store.now c.join.new.store c.args.heads.now.items c.join.new.heads.items c.args.backs.now.items c.join.new.backs.items (record { lit = c.index-lits-1.result; next = next_in c.args.store.now c.index-lits-1.result c.args.s; back = back_in c.args.store.now c.args.backs.now.items c.index-lits-1.result c.args.s }) = record { links = c.join.ensures.links ∙ ap (λ e. joined_store c.args.store.now e.lit e.next e.back) c.ends_of-ends.ensures; heads_are = c.join.ensures.heads ∙ ap (λ e. joined_heads c.args.heads.now.items e.lit e.next e.back) c.ends_of-ends.ensures; backs_are = c.join.ensures.backs ∙ ap (λ e. joined_backs c.args.store.now c.args.backs.now.items e.lit e.next e.back) c.ends_of-ends.ensures } in
-    let is : c.swap.new.self ≡ with_swap c.join.new.store (id_at c.args.store.now c.args.s) 1 c.args.k = c.swap.ensures (id_at c.args.store.now c.args.s) (slot-out c.args.store.now c.args.heads.now.items c.args.backs.now.items c.args.s c.args.k c.requires.0 c.requires.1 c.index-lits-1.result c.index-lits-k.result second later c.join.new.store c.join.new.heads.items c.join.new.backs.items j) in
-    reserved-b c.args.store.now c.args.heads.now.items c.args.backs.now.items c.args.s c.args.k c.requires.0 c.requires.1 c.index-lits-1.result c.index-lits-k.result second later c.join.new.store c.join.new.heads.items c.join.new.backs.items j c.swap.new.self is
+    let read : lits_of c.args.store.now c.args.s ≡ c.lits.result.now = c.lits.ensures (id_at c.args.store.now c.args.s) c.requires.1.slot in
+    let inb : c.args.k < length c.lits.result.now = subst (λ z. c.args.k < length z) read c.requires.1.in_bounds in
+    let second : c.pair-left.result.1 ≡ slice_index (lits_of c.args.store.now c.args.s) 1 = (c.pair-left.ensures (id_at c.args.store.now c.args.s) c.requires.1.slot).1 in
+    let later : c.index-lits-k.result ≡ slice_index (lits_of c.args.store.now c.args.s) c.args.k = get_or_read c.lits.result.now c.args.k c.index-lits-k.result inb c.index-lits-k.is 0 ∙ ap (λ z. slice_index z c.args.k) (sym read) in
+    let j : Joined c.args.store.now c.join.new.store c.args.heads.now.items c.join.new.heads.items c.args.backs.now.items c.join.new.backs.items (record { lit = c.pair-left.result.1; next = next_in c.args.store.now c.pair-left.result.1 c.args.s; back = back_in c.args.store.now c.args.backs.now.items c.pair-left.result.1 c.args.s }) = record { links = c.join.ensures.links ∙ ap (λ e. joined_store c.args.store.now e.lit e.next e.back) c.ends_of-ends.ensures; heads_are = c.join.ensures.heads ∙ ap (λ e. joined_heads c.args.heads.now.items e.lit e.next e.back) c.ends_of-ends.ensures; backs_are = c.join.ensures.backs ∙ ap (λ e. joined_backs c.args.store.now c.args.backs.now.items e.lit e.next e.back) c.ends_of-ends.ensures } in
+    let is : c.swap.new.self ≡ with_swap c.join.new.store (id_at c.args.store.now c.args.s) 1 c.args.k = c.swap.ensures (id_at c.args.store.now c.args.s) (slot-out c.args.store.now c.args.heads.now.items c.args.backs.now.items c.args.s c.args.k c.requires.0 c.requires.1 c.pair-left.result.1 c.index-lits-k.result second later c.join.new.store c.join.new.heads.items c.join.new.backs.items j) in
+    reserved-b c.args.store.now c.args.heads.now.items c.args.backs.now.items c.args.s c.args.k c.requires.0 c.requires.1 c.pair-left.result.1 c.index-lits-k.result second later c.join.new.store c.join.new.heads.items c.join.new.backs.items j c.swap.new.self is
 
 pub returns-clause-unseen : goal.returns-clause-unseen
 returns-clause-unseen c =
-    let read : lits_of c.args.store.now c.args.s ≡ c.lits-lits.result.now = c.lits-lits.ensures (id_at c.args.store.now c.args.s) c.requires.1.slot in
-    let inb : c.args.k < length c.lits-lits.result.now = subst (λ z. c.args.k < length z) read c.requires.1.in_bounds in
-    let far : 2 ≤ c.args.k = c.requires.1.later in
-    let second : c.index-lits-1.result ≡ slice_index (lits_of c.args.store.now c.args.s) 1 = get_or_read c.lits-lits.result.now 1 c.index-lits-1.result (omega arith) c.index-lits-1.is 0 ∙ ap (λ z. slice_index z 1) (sym read) in
-    let later : c.index-lits-k.result ≡ slice_index (lits_of c.args.store.now c.args.s) c.args.k = get_or_read c.lits-lits.result.now c.args.k c.index-lits-k.result inb c.index-lits-k.is 0 ∙ ap (λ z. slice_index z c.args.k) (sym read) in
-    let j : Joined c.args.store.now c.join.new.store c.args.heads.now.items c.join.new.heads.items c.args.backs.now.items c.join.new.backs.items (record { lit = c.index-lits-1.result; next = next_in c.args.store.now c.index-lits-1.result c.args.s; back = back_in c.args.store.now c.args.backs.now.items c.index-lits-1.result c.args.s }) = record { links = c.join.ensures.links ∙ ap (λ e. joined_store c.args.store.now e.lit e.next e.back) c.ends_of-ends.ensures; heads_are = c.join.ensures.heads ∙ ap (λ e. joined_heads c.args.heads.now.items e.lit e.next e.back) c.ends_of-ends.ensures; backs_are = c.join.ensures.backs ∙ ap (λ e. joined_backs c.args.store.now c.args.backs.now.items e.lit e.next e.back) c.ends_of-ends.ensures } in
-    let is : c.swap.new.self ≡ with_swap c.join.new.store (id_at c.args.store.now c.args.s) 1 c.args.k = c.swap.ensures (id_at c.args.store.now c.args.s) (slot-out c.args.store.now c.args.heads.now.items c.args.backs.now.items c.args.s c.args.k c.requires.0 c.requires.1 c.index-lits-1.result c.index-lits-k.result second later c.join.new.store c.join.new.heads.items c.join.new.backs.items j) in
-    unseen-moved c.args.store.now c.args.heads.now.items c.args.backs.now.items c.args.s c.args.k c.requires.0 c.requires.1 c.index-lits-1.result c.index-lits-k.result second later c.join.new.store c.join.new.heads.items c.join.new.backs.items j c.swap.new.self is c.front.new.store c.front.new.heads.items c.front.new.backs.items c.front.ensures.links c.front.ensures.heads c.front.ensures.backs
+    let read : lits_of c.args.store.now c.args.s ≡ c.lits.result.now = c.lits.ensures (id_at c.args.store.now c.args.s) c.requires.1.slot in
+    let inb : c.args.k < length c.lits.result.now = subst (λ z. c.args.k < length z) read c.requires.1.in_bounds in
+    let second : c.pair-left.result.1 ≡ slice_index (lits_of c.args.store.now c.args.s) 1 = (c.pair-left.ensures (id_at c.args.store.now c.args.s) c.requires.1.slot).1 in
+    let later : c.index-lits-k.result ≡ slice_index (lits_of c.args.store.now c.args.s) c.args.k = get_or_read c.lits.result.now c.args.k c.index-lits-k.result inb c.index-lits-k.is 0 ∙ ap (λ z. slice_index z c.args.k) (sym read) in
+    let j : Joined c.args.store.now c.join.new.store c.args.heads.now.items c.join.new.heads.items c.args.backs.now.items c.join.new.backs.items (record { lit = c.pair-left.result.1; next = next_in c.args.store.now c.pair-left.result.1 c.args.s; back = back_in c.args.store.now c.args.backs.now.items c.pair-left.result.1 c.args.s }) = record { links = c.join.ensures.links ∙ ap (λ e. joined_store c.args.store.now e.lit e.next e.back) c.ends_of-ends.ensures; heads_are = c.join.ensures.heads ∙ ap (λ e. joined_heads c.args.heads.now.items e.lit e.next e.back) c.ends_of-ends.ensures; backs_are = c.join.ensures.backs ∙ ap (λ e. joined_backs c.args.store.now c.args.backs.now.items e.lit e.next e.back) c.ends_of-ends.ensures } in
+    let is : c.swap.new.self ≡ with_swap c.join.new.store (id_at c.args.store.now c.args.s) 1 c.args.k = c.swap.ensures (id_at c.args.store.now c.args.s) (slot-out c.args.store.now c.args.heads.now.items c.args.backs.now.items c.args.s c.args.k c.requires.0 c.requires.1 c.pair-left.result.1 c.index-lits-k.result second later c.join.new.store c.join.new.heads.items c.join.new.backs.items j) in
+    unseen-moved c.args.store.now c.args.heads.now.items c.args.backs.now.items c.args.s c.args.k c.requires.0 c.requires.1 c.pair-left.result.1 c.index-lits-k.result second later c.join.new.store c.join.new.heads.items c.join.new.backs.items j c.swap.new.self is c.front.new.store c.front.new.heads.items c.front.new.backs.items c.front.ensures.links c.front.ensures.heads c.front.ensures.backs
 
 pub returns-clause-chained : goal.returns-clause-chained
 returns-clause-chained c = λ chains h.
-    let read : lits_of c.args.store.now c.args.s ≡ c.lits-lits.result.now = c.lits-lits.ensures (id_at c.args.store.now c.args.s) h.slot in
-    let inb : c.args.k < length c.lits-lits.result.now = subst (λ z. c.args.k < length z) read h.in_bounds in
-    let far : 2 ≤ c.args.k = h.later in
-    let second : c.index-lits-1.result ≡ slice_index (lits_of c.args.store.now c.args.s) 1 = get_or_read c.lits-lits.result.now 1 c.index-lits-1.result (omega arith) c.index-lits-1.is 0 ∙ ap (λ z. slice_index z 1) (sym read) in
-    let later : c.index-lits-k.result ≡ slice_index (lits_of c.args.store.now c.args.s) c.args.k = get_or_read c.lits-lits.result.now c.args.k c.index-lits-k.result inb c.index-lits-k.is 0 ∙ ap (λ z. slice_index z c.args.k) (sym read) in
-    let j : Joined c.args.store.now c.join.new.store c.args.heads.now.items c.join.new.heads.items c.args.backs.now.items c.join.new.backs.items (record { lit = c.index-lits-1.result; next = next_in c.args.store.now c.index-lits-1.result c.args.s; back = back_in c.args.store.now c.args.backs.now.items c.index-lits-1.result c.args.s }) = record { links = c.join.ensures.links ∙ ap (λ e. joined_store c.args.store.now e.lit e.next e.back) c.ends_of-ends.ensures; heads_are = c.join.ensures.heads ∙ ap (λ e. joined_heads c.args.heads.now.items e.lit e.next e.back) c.ends_of-ends.ensures; backs_are = c.join.ensures.backs ∙ ap (λ e. joined_backs c.args.store.now c.args.backs.now.items e.lit e.next e.back) c.ends_of-ends.ensures } in
-    let is : c.swap.new.self ≡ with_swap c.join.new.store (id_at c.args.store.now c.args.s) 1 c.args.k = c.swap.ensures (id_at c.args.store.now c.args.s) (slot-out c.args.store.now c.args.heads.now.items c.args.backs.now.items c.args.s c.args.k chains h c.index-lits-1.result c.index-lits-k.result second later c.join.new.store c.join.new.heads.items c.join.new.backs.items j) in
-    chained-moved c.args.store.now c.args.heads.now.items c.args.backs.now.items c.args.s c.args.k chains h c.index-lits-1.result c.index-lits-k.result second later c.join.new.store c.join.new.heads.items c.join.new.backs.items j c.swap.new.self is c.front.new.store c.front.new.heads.items c.front.new.backs.items c.front.ensures.links c.front.ensures.heads c.front.ensures.backs
+    let read : lits_of c.args.store.now c.args.s ≡ c.lits.result.now = c.lits.ensures (id_at c.args.store.now c.args.s) h.slot in
+    let inb : c.args.k < length c.lits.result.now = subst (λ z. c.args.k < length z) read h.in_bounds in
+    let second : c.pair-left.result.1 ≡ slice_index (lits_of c.args.store.now c.args.s) 1 = (c.pair-left.ensures (id_at c.args.store.now c.args.s) c.requires.1.slot).1 in
+    let later : c.index-lits-k.result ≡ slice_index (lits_of c.args.store.now c.args.s) c.args.k = get_or_read c.lits.result.now c.args.k c.index-lits-k.result inb c.index-lits-k.is 0 ∙ ap (λ z. slice_index z c.args.k) (sym read) in
+    let j : Joined c.args.store.now c.join.new.store c.args.heads.now.items c.join.new.heads.items c.args.backs.now.items c.join.new.backs.items (record { lit = c.pair-left.result.1; next = next_in c.args.store.now c.pair-left.result.1 c.args.s; back = back_in c.args.store.now c.args.backs.now.items c.pair-left.result.1 c.args.s }) = record { links = c.join.ensures.links ∙ ap (λ e. joined_store c.args.store.now e.lit e.next e.back) c.ends_of-ends.ensures; heads_are = c.join.ensures.heads ∙ ap (λ e. joined_heads c.args.heads.now.items e.lit e.next e.back) c.ends_of-ends.ensures; backs_are = c.join.ensures.backs ∙ ap (λ e. joined_backs c.args.store.now c.args.backs.now.items e.lit e.next e.back) c.ends_of-ends.ensures } in
+    let is : c.swap.new.self ≡ with_swap c.join.new.store (id_at c.args.store.now c.args.s) 1 c.args.k = c.swap.ensures (id_at c.args.store.now c.args.s) (slot-out c.args.store.now c.args.heads.now.items c.args.backs.now.items c.args.s c.args.k chains h c.pair-left.result.1 c.index-lits-k.result second later c.join.new.store c.join.new.heads.items c.join.new.backs.items j) in
+    chained-moved c.args.store.now c.args.heads.now.items c.args.backs.now.items c.args.s c.args.k chains h c.pair-left.result.1 c.index-lits-k.result second later c.join.new.store c.join.new.heads.items c.join.new.backs.items j c.swap.new.self is c.front.new.store c.front.new.heads.items c.front.new.backs.items c.front.ensures.links c.front.ensures.heads c.front.ensures.backs

@@ -1,5 +1,5 @@
 -- A `&` to a block holds what a `&` to its literals holds.
-use Rattle.std.proofs.Common.{◌≡◌, sym, subst}
+use Rattle.std.proofs.Common.{sym, subst}
 use denote.Array.{Array, Array-row_laws}
 use denote.ArrayMemory.{Single}
 use denote.Shares.{Shares-less, Shares-Array}

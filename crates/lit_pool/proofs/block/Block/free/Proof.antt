@@ -3,7 +3,7 @@ use Rattle.std.proofs.Common.{◌≡◌, ℕ, ◌*◌, ◌^◌, ◌<◌, List, [
 use Rattle.std.proofs.raw_atomic.Walks.{proved, leaves}
 use Rattle.std.proofs.alloc.Calls.{Al, seen, Goes-blank, Gives, at_gives, Gives-goes, Gives-Gives}
 use Rattle.std.proofs.VecSteps.Shapes.{after}
-use base.Logic.{id⊢, emp}
+use base.Logic.{id⊢}
 use base.Fml.{Lft, ftrue, flft, froom}
 use mir.Syntax.{Fn, Args, a_type, dcons, dnil, named, ty_unit}
 use mir.MapTy.{inst_fn}
@@ -12,7 +12,7 @@ use prog.Wp.{WpFn}
 use contract.BorrowLft.{◌⊑◌, ⊑_trans}
 use contract.Monad.{fact}
 use contract.Running.{tables}
-use types.Kit.{prop, ‵, raw, ◌⊛◌, later, given, at_ret, ◌$◌, ◌∵◌, !, qed, by, done, move, drop, use1, use3, split, join, learn, rewrite, regoal, fsplit, fjoin, feq_i, await}
+use types.Kit.{prop, ‵, raw, ◌⊛◌, later, given, at_ret, ◌$◌, ◌∵◌, !, qed, by, move, drop, use1, use3, split, join, learn, rewrite, regoal, fsplit, fjoin, feq_i, await}
 use types.Part.{sub, whole}
 use types.Run.{enter, of_opd, lit, bin, unit_lit, and_then, no_more, fld, stop, first, blocks, exec, returns}
 use types.ByLocal.{alloc_all, pass_all, free_all, look_at, get, get_in, sets, lands_last, env}
@@ -20,7 +20,7 @@ use denote.Builtin.{RefOf}
 use denote.Exit.{yes, no}
 use denote.Param.{param, bounded}
 use denote.Param.Laws.{param_laws}
-use denote.RawPtr.{Ptr, block_ptr, ptr_val, in_a_block}
+use denote.RawPtr.{Ptr, ptr_val, in_a_block}
 use denote.Ref.{ShrRef, shr_vals, shr_Tells}
 use denote.Signature.{plain}
 use denote.Steps.{nothing, heard}

@@ -1,5 +1,5 @@
 -- `lits` shows the literals as a slice: the pointer and the length are read through the `&`.
-use Rattle.std.proofs.Common.{◌≡◌, ℕ, ◌+◌, ◌*◌, ◌^◌, ◌<◌, List, [], ◌∷◌, length, refl, sym, ap, subst, arith}
+use Rattle.std.proofs.Common.{ℕ, ◌+◌, ◌*◌, ◌^◌, List, [], ◌∷◌, length, refl, ap, arith}
 use Rattle.std.proofs.raw_atomic.Walks.{proved}
 use Rattle.std.proofs.Words.{word_in, word_out, pointer_in, pointer_out}
 use mir.Syntax.{named}
@@ -14,7 +14,7 @@ use types.ByLocal.{alloc_all, pass_all, free_all, look_at, get, through, sets, s
 use denote.Builtin.{RefOf}
 use denote.Exit.{yes}
 use denote.Memory.{hidden_shr}
-use denote.Opens.{shr_dup, unhide, hide}
+use denote.Opens.{unhide, hide}
 use denote.RawPtr.{InBlock, block_of, count_of}
 use denote.Ref.{ShrRef, shr_vals, shr_Tells}
 use denote.Signature.{plain}

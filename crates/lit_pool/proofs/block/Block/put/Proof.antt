@@ -1,5 +1,5 @@
 -- `put` takes one literal's cell out of the row, writes it, and puts it back.
-use Rattle.std.proofs.Common.{◌≡◌, ℕ, ◌+◌, ◌*◌, ◌^◌, ◌<◌, List, [], ◌∷◌, length, set, refl, sym, ap, ◌∙◌, subst, arith, length-set, w64}
+use Rattle.std.proofs.Common.{◌≡◌, ℕ, ◌+◌, ◌*◌, ◌^◌, ◌<◌, List, [], ◌∷◌, length, set, refl, sym, ap, ◌∙◌, arith, length-set, w64}
 use Rattle.std.proofs.raw_atomic.Walks.{proved, leaves}
 use base.Fraction.{full_share}
 use base.Logic.{id⊢, emp}
@@ -8,17 +8,17 @@ use mir.Syntax.{named}
 use mir.Val.{Val, vunit}
 use contract.Monad.{fact, fact_i}
 use contract.Running.{tables}
-use types.Kit.{‵, raw, ◌⊛◌, some, at_ret, ◌$◌, ◌∵◌, !, qed, by, done, move, keep, drop, use0, use1, use3, split, join, pick, rewrite, fsplit, fsplit3, fjoin, fjoin3, feq_i, suffices}
+use types.Kit.{‵, raw, ◌⊛◌, some, at_ret, ◌$◌, ◌∵◌, !, qed, by, move, keep, drop, use0, use1, use3, split, join, pick, rewrite, fsplit, fsplit3, fjoin, fjoin3, feq_i}
 use types.Part.{look_in, sub, whole}
-use types.Run.{enter, of_opd, lit, bin, unit_lit, load, store, fld, hop, stop, assigns_last, first, blocks, exec, returns}
+use types.Run.{enter, of_opd, lit, bin, unit_lit, load, store, fld, stop, assigns_last, first, blocks, exec, returns}
 use types.ByLocal.{alloc_all, pass_all, free_all, look_at, get, through, sets, env}
 use denote.Array.{Array}
-use denote.Builtin.{usize, RefMutOf}
+use denote.Builtin.{usize}
 use denote.Exit.{yes}
 use denote.Laws.{shows}
 use denote.Memory.{part_at, cell_at}
 use denote.Plain.{uint_vals, uint_Tells}
-use denote.RawPtr.{Ptr, block_ptr, in_a_block}
+use denote.RawPtr.{Ptr, in_a_block}
 use denote.Ref.{MutRef, mut_vals, mut_Tells}
 use denote.Signature.{plain}
 use denote.Steps.{nothing, opens, closes, peeks, heard}

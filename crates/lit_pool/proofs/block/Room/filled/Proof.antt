@@ -1,22 +1,20 @@
 -- `filled` writes one literal a turn.
-use Rattle.std.proofs.Common.{◌≡◌, ℕ, suc, ◌+◌, ◌-◌, ◌*◌, ◌^◌, ◌<◌, ◌≤◌, List, [], ◌∷◌, replicate, refl, sym, ap, ◌∙◌, arith, lit<, ltb→lt, nltb→le}
+use Rattle.std.proofs.Common.{◌≡◌, ℕ, suc, ◌+◌, ◌-◌, ◌*◌, ◌^◌, ◌<◌, ◌≤◌, List, [], ◌∷◌, replicate, refl, sym, arith, lit<, ltb→lt, nltb→le}
 use Rattle.std.proofs.raw_atomic.Walks.{proved, leaves}
 use Rattle.std.proofs.alloc.Calls.{Goes-blank}
 use Rattle.std.proofs.VecSteps.Shapes.{after, head}
 use lib.ListN.{length-replicate}
 use lib.WfN.{lt-wf_rel}
 use mathlib.Core.WellFounded.InvImage
-use seplogic.Ra.Ura.{Ura}
 use base.Fraction.{full_share}
 use base.Logic.{SProp, id⊢, emp}
 use base.Fml.{Fml, ftrue, fat, froom}
 use mir.Syntax.{Body, w64, ty_int}
 use mir.Val.{Val, vint, vptr, vstruct, vcons, vnil}
-use prog.Wp.{Env, Out, Wp, WpFn, Tables, at_return, after_seq, after_block, after_turn}
+use prog.Wp.{Env, Out, Wp, WpFn, at_return, after_seq, after_block, after_turn}
 use contract.Monad.{fact, fact_i}
 use contract.Running.{tables, tables_of}
-use types.Logic.{Logic}
-use types.Kit.{Item, Sq, any_q, runs, prop, ‵, raw, ◌⊛◌, at_ret, ◌$◌, ◌∵◌, !, qed, by, done, move, keep, drop, use0, use1, use2, split, join, rewrite, regoal, fsplit, fjoin}
+use types.Kit.{Item, any_q, prop, ‵, raw, ◌⊛◌, at_ret, ◌$◌, ◌∵◌, !, qed, by, move, keep, drop, use0, use1, use2, split, join, rewrite, regoal, fsplit, fjoin}
 use types.Part.{agg, sub, whole}
 use types.Run.{enter, of_opd, lit, bin, and_then, no_more, fld, stop, init, assigns_last, first, blocks, skips, jumps, branches, exec, returns, loops, again, Below}
 use types.ByLocal.{alloc_all, pass_all, free_all, look_at, get, get_in, through, sets, sets_last, env, holding, forget_but, take_at, give_at}

@@ -1,5 +1,5 @@
 -- `new` asks the allocator for a block, and parts the room from the right to give it back.
-use Rattle.std.proofs.Common.{◌≡◌, ℕ, ◌*◌, ◌^◌, ◌<◌, List, [], ◌∷◌, refl, arith, lit<, Some, None, IfSome, w64}
+use Rattle.std.proofs.Common.{◌≡◌, ℕ, ◌*◌, ◌^◌, ◌<◌, [], ◌∷◌, refl, arith, lit<, Some, None, w64}
 use Rattle.std.proofs.raw_atomic.Walks.{proved, leaves}
 use Rattle.std.proofs.alloc.Calls.{Al, seen, Takes, at_takes, Answered, Takes-goes, Takes-gives, answers}
 use Rattle.std.proofs.alloc.Shapes.{after, head, arm_body}
@@ -7,7 +7,7 @@ use Rattle.std.proofs.option.Made.{Some-of, none_of}
 use seplogic.Ra.Ura.{Ura}
 use base.Logic.{SProp, ent, id⊢, emp}
 use types.Logic.{Logic, sem}
-use base.Fml.{Lft, ftrue, flft, froom}
+use base.Fml.{Lft, ftrue, flft}
 use mir.Syntax.{Fn, Args, a_type, dcons, dnil, named}
 use mir.MapTy.{inst_fn}
 use mir.Val.{Val, vint, vptr, vstruct, vcons, vnil}
@@ -15,7 +15,7 @@ use prog.Wp.{Env, Out, Wp, at_return, after_seq}
 use contract.BorrowLft.{◌⊑◌, ⊑_trans}
 use contract.Monad.{fact, fact_i}
 use contract.Running.{tables}
-use types.Kit.{any_q, ‵, raw, ◌⊛◌, later, at_ret, ◌$◌, ◌∵◌, !, qed, by, done, move, drop, use0, use1, use2, split, join, fsplit, fjoin, await}
+use types.Kit.{any_q, ‵, raw, ◌⊛◌, later, at_ret, ◌$◌, ◌∵◌, !, qed, by, move, drop, use0, use1, use2, split, join, fsplit, fjoin, await}
 use types.Match.{live, vrt, in_variant}
 use types.Part.{agg, whole}
 use types.Run.{enter, of_opd, lit, bin, and_then, no_more, fld, stop, first, switches_on, exec, returns}
@@ -23,7 +23,6 @@ use types.ByLocal.{alloc_all, pass_all, free_all, look_at, get, get_in, get_tag,
 use denote.Builtin.{RefOf, usize}
 use denote.Exit.{yes}
 use denote.Param.{param, bounded}
-use denote.Param.Laws.{param_laws}
 use denote.Plain.{uint_vals, uint_Tells}
 use denote.RawPtr.{Ptr, block_ptr}
 use denote.Ref.{ShrRef, shr_vals, shr_Tells}

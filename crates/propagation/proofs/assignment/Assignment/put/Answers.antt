@@ -12,6 +12,13 @@ raised-level-requires c =
     let new : IsNew (length c.self.inside.marks.items) c.self.inside.steps.items c.args.l = subst (λ z. IsNew z.vars z.steps c.args.l) (sym c.self.view_is) c.requires in
     (assigned-room _ _ _ _ _ _ _ s c.self.invariant new).2
 
+pub overflow_cast-place : goal.overflow_cast-place
+overflow_cast-place c =
+    let s : Step = record { lit = c.args.l; reason = c.args.reason } in
+    let new : IsNew (length c.self.inside.marks.items) c.self.inside.steps.items c.args.l = subst (λ z. IsNew z.vars z.steps c.args.l) (sym c.self.view_is) c.requires in
+    let few = (assigned-room _ _ _ _ _ _ _ s c.self.invariant new).3 in
+    omega (arith, few, c.len-place.ensures, c.self.inside.steps.ok.0)
+
 pub invariant_of-self : goal.invariant_of-self
 invariant_of-self c =
     let s : Step = record { lit = c.args.l; reason = c.args.reason } in
@@ -22,7 +29,7 @@ invariant_of-self c =
     let steps : c.push.new.self.items ≡ c.self.inside.steps.items ++ s ∷ [] = rw one at c.push.ensures.items in
     let lits : c.push-2.new.self.items ≡ c.self.inside.lits.items ++ c.args.l ∷ [] = rw two at c.push-2.ensures.items in
     rw (steps, lits, c.code.ensures.code, c.code-2.ensures.code, c.neg.ensures.negation, c.var.ensures.variable, c.raised-level.ensures)
-    (assigned-put _ _ _ _ _ _ _ _ _ s c.self.invariant new c.push.ensures.capacity c.push-2.ensures.capacity)
+    (assigned-put _ _ _ _ _ _ _ _ _ _ s c.self.invariant new (omega (arith, c.len-place.ensures, c.self.inside.steps.ok.0)) c.push.ensures.capacity c.push-2.ensures.capacity)
 
 pub returns : goal.returns
 returns c =
@@ -31,4 +38,4 @@ returns c =
     let room = assigned-room _ _ _ _ _ _ _ s c.self.invariant new in
     let one : is_ok c.push.result ≡ true = c.push.ensures.succeeds (omega (arith, room.0, c.self.inside.steps.ok.0)) in
     let steps : c.push.new.self.items ≡ c.self.inside.steps.items ++ s ∷ [] = rw one at c.push.ensures.items in
-    (λ i. record { steps = steps i; vars = length-set c.self.inside.marks.items (c.var.result - 1) (record { level = c.raised-level.result; reason = c.args.reason }) i }) ∙ ap (λ z. with_last z s) c.self.view_is
+    (λ i. record { steps = steps i; vars = length-set c.self.inside.marks.items (c.var.result - 1) (record { level = c.raised-level.result; place = c.len-place.result }) i }) ∙ ap (λ z. with_last z s) c.self.view_is

@@ -4,8 +4,8 @@ use Rattle.std.proofs.lemmas.List.{get_or_default}
 use Rattle.std.proofs.lemmas.Option.{same_Some, none-some}
 use Rattle.propagation.specs.Engine.{reason_in}
 use Rattle.propagation.proofs.Scan.{index_of}
-use Rattle.propagation.proofs.is_reason_among.Goals as goal
-use Rattle.propagation.proofs.is_reason_among.Goals.{in-Some+else-eq, in_default}
+use Rattle.propagation.proofs.forced_among.Goals as goal
+use Rattle.propagation.proofs.forced_among.Goals.{in-Some+else-eq, in_default}
 
 pub loop-l-init : goal.loop-l-init
 loop-l-init c = λ k lt. absurd (omega arith)
@@ -19,5 +19,5 @@ loop-l-preserved c = below_more _ _ c.loop-l.invariant (λ at.
       | in_default w ↦ none-some _ (sym w.in_default.is ∙ reason)
     ])
 
-pub returns-clause-no : goal.returns-clause-no
-returns-clause-no c = λ f l m at. let r = index_of _ l m in c.loop-l.invariant r.0 (omega (arith, r.1, c.loop-l-test.false)) (ap (reason_in c.args.trail.now.steps) r.2 ∙ at)
+pub returns-clause-none : goal.returns-clause-none
+returns-clause-none c = λ l m at. let r = index_of _ l m in c.loop-l.invariant r.0 (omega (arith, r.1, c.loop-l-test.false)) (ap (reason_in c.args.trail.now.steps) r.2 ∙ at)
