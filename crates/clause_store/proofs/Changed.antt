@@ -1,5 +1,5 @@
 -- One entry of the pool changed: its list in another order, or its links.
-use Rattle.std.proofs.Common.{◌≡◌, ℕ, ◌<◌, List, [], length, Option, Some, refl, sym, ap, ◌∙◌, subst, inl, inr, cond, true, false, nat_eq, eqb-true, eq-eqb}
+use Rattle.std.proofs.Common.{◌≡◌, ℕ, ◌<◌, List, [], length, Option, Some, refl, sym, ap, ◌∙◌, subst, inl, inr, cond, Bool, true, false, nat_eq, eqb-true, eq-eqb}
 use Rattle.std.specs.Prelude.{option_map, option_and_then, unwrap_or}
 use Rattle.std.specs.List.{swap}
 use Rattle.std.specs.List.Sorted.{IsPermutation}
@@ -42,14 +42,14 @@ swap-once xs a b lt lt2 o =
 -- ---- One entry changed
 
 -- what is known when an active clause's entry is changed
-pub record Changes (p : Entries) (es : Table) (ids : List Noted) (id s : ℕ) (e : Entry) (f : Place → Place) : Type 0 where
-  pub all : AreRows p ids es
+pub record Changes (indexed : Bool) (p : Entries) (es : Table) (ids : List Noted) (id s : ℕ) (e : Entry) (f : Place → Place) : Type 0 where
+  pub all : AreRows indexed p ids es
   pub slot : slot_at (store_of p es) id ≡ Some s
   pub shape : place_of e s ≡ f (place_of (entry_at p s) s)
   pub same_set : set_of e.lits ≡ set_of (entry_at p s).lits
   pub once : IsOnce (entry_at p s).lits → IsOnce e.lits
 
-module _ (p : Entries) (es : Table) (ids : List Noted) (id s : ℕ) (e : Entry) (f : Place → Place) (h : Changes p es ids id s e f) where
+module _ {indexed : Bool} (p : Entries) (es : Table) (ids : List Noted) (id s : ℕ) (e : Entry) (f : Place → Place) (h : Changes indexed p es ids id s e f) where
   here : Found true (row es id) s
   here = found true (row es id) s (sym (slot_at-row p es id) ∙ h.slot)
 
@@ -78,11 +78,11 @@ module _ (p : Entries) (es : Table) (ids : List Noted) (id s : ℕ) (e : Entry) 
   store-changed = store_put p (insert p s e) es es id here.k (with_place f (clause_at (store_of p es) id)) same_rows others
       (ap (λ o. held_of o here.k) entry-here ∙ held-here ∙ sym (ap (with_place f) clause-here))
 
-  pub rows-changed : AreRows (insert p s e) ids es
+  pub rows-changed : AreRows indexed (insert p s e) ids es
   rows-changed =
-      let r : IsRow (get p s) ids id here.k = subst (λ z. IsRow (get p z) ids id here.k) here.slot (h.all id here.k here.is) in
-      let n : IsRow (Some e) ids id here.k = record { live = refl; listed = r.listed; once = h.once r.once; keyed = r.keyed ∙ ap key_of (sym h.same_set) } in
-      rows_put p (insert p s e) es es ids id here.k same_rows others (subst (λ o. IsRow o ids id here.k) (sym entry-here) n) h.all
+      let r : IsRow indexed (get p s) ids id here.k = subst (λ z. IsRow indexed (get p z) ids id here.k) here.slot (h.all id here.k here.is) in
+      let n : IsRow indexed (Some e) ids id here.k = record { live = refl; listed = r.listed; once = h.once r.once; keyed = λ t. r.keyed t ∙ ap key_of (sym h.same_set) } in
+      rows_put p (insert p s e) es es ids id here.k same_rows others (subst (λ o. IsRow indexed o ids id here.k) (sym entry-here) n) h.all
 
 pub link_at-row : (p : Entries) (es : Table) (id s : ℕ) (w : Which) → slot_at (store_of p es) id ≡ Some s → link_at (store_of p es) id w ≡ link_of (entry_at p s) w
 link_at-row p es id s w e =
@@ -95,16 +95,16 @@ link_at-row p es id s w e =
 
 -- ---- The two changes
 
-swap_changes : (p : Entries) (es : Table) (ids : List Noted) (id s a b : ℕ) → AreRows p ids es → slot_at (store_of p es) id ≡ Some s → a < length (entry_at p s).lits → b < length (entry_at p s).lits
-    → Changes p es ids id s (record { lits = swap (entry_at p s).lits a b; one = (entry_at p s).one; two = (entry_at p s).two }) (swapped a b)
+swap_changes : {indexed : Bool} (p : Entries) (es : Table) (ids : List Noted) (id s a b : ℕ) → AreRows indexed p ids es → slot_at (store_of p es) id ≡ Some s → a < length (entry_at p s).lits → b < length (entry_at p s).lits
+    → Changes indexed p es ids id s (record { lits = swap (entry_at p s).lits a b; one = (entry_at p s).one; two = (entry_at p s).two }) (swapped a b)
 swap_changes p es ids id s a b h e lt lt2 = record { all = h; slot = e; shape = refl; same_set = swap-set (entry_at p s).lits a b lt lt2; once = swap-once (entry_at p s).lits a b lt lt2 }
 
-link_changes : (p : Entries) (es : Table) (ids : List Noted) (id s : ℕ) (w : Which) (to : Option ℕ) → AreRows p ids es → slot_at (store_of p es) id ≡ Some s
-    → Changes p es ids id s (entry_relinked (entry_at p s) w to) (relinked w to)
+link_changes : {indexed : Bool} (p : Entries) (es : Table) (ids : List Noted) (id s : ℕ) (w : Which) (to : Option ℕ) → AreRows indexed p ids es → slot_at (store_of p es) id ≡ Some s
+    → Changes indexed p es ids id s (entry_relinked (entry_at p s) w to) (relinked w to)
 link_changes p es ids id s which.One to h e = record { all = h; slot = e; shape = refl; same_set = refl; once = λ o. o }
 link_changes p es ids id s which.Two to h e = record { all = h; slot = e; shape = refl; same_set = refl; once = λ o. o }
 
-module _ (p p' : Entries) (es : Table) (ids : List Noted) (m : Store) (id s : ℕ) (v : store_of p es ≡ m) (h : AreRows p ids es) (e : slot_at m id ≡ Some s) where
+module _ {indexed : Bool} (p p' : Entries) (es : Table) (ids : List Noted) (m : Store) (id s : ℕ) (v : store_of p es ≡ m) (h : AreRows indexed p ids es) (e : slot_at m id ≡ Some s) where
   slot_inside : slot_at (store_of p es) id ≡ Some s
   slot_inside = ap (λ z. slot_at z id) v ∙ e
 
@@ -112,14 +112,14 @@ module _ (p p' : Entries) (es : Table) (ids : List Noted) (m : Store) (id s : �
   pub length_inside : length (entry_at p s).lits ≡ length (lits_at m id)
   length_inside = ap length (sym (lits_at-row p es id s (sym (slot_at-row p es id) ∙ slot_inside))) ∙ ap (λ z. length (lits_at z id)) v
 
-  pub rows-swapped : (a b : ℕ) → a < length (entry_at p s).lits → b < length (entry_at p s).lits → p' ≡ pool_with_swap p s a b → AreRows p' ids es
-  rows-swapped a b lt lt2 new = subst (λ z. AreRows z ids es) (sym new) (rows-changed p es ids id s _ _ (swap_changes p es ids id s a b h slot_inside lt lt2))
+  pub rows-swapped : (a b : ℕ) → a < length (entry_at p s).lits → b < length (entry_at p s).lits → p' ≡ pool_with_swap p s a b → AreRows indexed p' ids es
+  rows-swapped a b lt lt2 new = subst (λ z. AreRows indexed z ids es) (sym new) (rows-changed p es ids id s _ _ (swap_changes p es ids id s a b h slot_inside lt lt2))
 
   pub store-swapped : (a b : ℕ) → a < length (entry_at p s).lits → b < length (entry_at p s).lits → p' ≡ pool_with_swap p s a b → store_of p' es ≡ with_swap m id a b
   store-swapped a b lt lt2 new = ap (λ z. store_of z es) new ∙ store-changed p es ids id s _ _ (swap_changes p es ids id s a b h slot_inside lt lt2) ∙ ap (λ z. with_swap z id a b) v
 
-  pub rows-relinked : (w : Which) (to : Option ℕ) → p' ≡ pool_with_link p s w to → AreRows p' ids es
-  rows-relinked w to new = subst (λ z. AreRows z ids es) (sym new) (rows-changed p es ids id s _ _ (link_changes p es ids id s w to h slot_inside))
+  pub rows-relinked : (w : Which) (to : Option ℕ) → p' ≡ pool_with_link p s w to → AreRows indexed p' ids es
+  rows-relinked w to new = subst (λ z. AreRows indexed z ids es) (sym new) (rows-changed p es ids id s _ _ (link_changes p es ids id s w to h slot_inside))
 
   pub store-relinked : (w : Which) (to : Option ℕ) → p' ≡ pool_with_link p s w to → store_of p' es ≡ with_link m id w to
   store-relinked w to new = ap (λ z. store_of z es) new ∙ store-changed p es ids id s _ _ (link_changes p es ids id s w to h slot_inside) ∙ ap (λ z. with_link z id w to) v

@@ -199,3 +199,7 @@ is_set-size ls set o e = ap length (sym e) ∙ size-once ls o
 
 pub is_set-all : (ls set : List ℕ) → set_of ls ≡ set → list_all (λ l. has set l) ls ≡ true
 is_set-all ls set e = all_from (λ l. has set l) ls (λ q m. subst (λ z. has z q ≡ true) e (has-set_of ls q ∙ has_from ls q m))
+
+-- a list with each literal once is put as it is
+pub firsts-once : (ls : List ℕ) → IsOnce ls → ls ≡ firsts ls
+firsts-once ls o = firsts-whole ls (size-once ls o)

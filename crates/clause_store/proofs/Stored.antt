@@ -1,5 +1,5 @@
 -- How a change of the rows and of the pool changes the map, and what holds inside.
-use Rattle.std.proofs.Common.{◌≡◌, ◌≢◌, ℕ, suc, zero, ◌+◌, ◌<◌, ◌⊎◌, List, [], ◌∷◌, ◌++◌, length, map, append_assoc, Option, Some, None, refl, sym, ap, ◌∙◌, subst, inl, inr, arith, cond, true, false, Bool, not, nat_eq, ◌||◌, ◌&&◌, eqb-true, eq-eqb, IsTrue}
+use Rattle.std.proofs.Common.{◌≡◌, ◌≢◌, ℕ, suc, zero, ◌+◌, ◌<◌, ◌≤◌, ◌⊎◌, List, [], ◌∷◌, ◌++◌, length, map, append_assoc, Option, Some, None, refl, sym, ap, ◌∙◌, subst, inl, inr, arith, cond, true, false, Bool, not, nat_eq, ◌||◌, ◌&&◌, eqb-true, eq-eqb, IsTrue}
 use Rattle.std.specs.Prelude.{is_some, option_map, option_and_then, unwrap_or, IfSome, IfNone, OnOk, OnErr, Result, Ok, Err, is_err}
 use Rattle.std.proofs.lemmas.Option.{same_Some, none-some}
 use Rattle.std.proofs.lemmas.Bool.{cases_Bool, both_ways, and_parts}
@@ -20,7 +20,7 @@ use Rattle.clause_store.specs.declared.table.Table.{Table}
 use Rattle.clause_store.specs.declared.index.Pairs.{Pairs}
 use Rattle.clause_store.specs.Clauses.{Held, Place, Store, IsOnce, firsts, slot_at, lits_at, literals_at, new_clause, active_clause, is_active, is_held, is_weakened, IsFresh, IsStore, IsRestored, IsActiveWith, IsWeakenedWith}
 use Rattle.clause_store.specs.Index.{has_pair, key_of}
-use Rattle.clause_store.specs.Rows.{entry_of, place_of, held_of, store_of, row_if, listed, entries, dense_row, far_row, row, literals_in, is_state, stands, row_slot, with_state, noted, kept_of, IsListed, SameListed, IsRow, ArePooled, AreRows, IsIndex, IsInside}
+use Rattle.clause_store.specs.Rows.{entry_of, place_of, held_of, store_of, row_if, listed, entries, dense_row, far_row, row, literals_in, IsRowWith, is_state, stands, row_slot, with_state, noted, kept_of, IsListed, SameListed, IsRow, ArePooled, AreRows, IsIndex, IsInside}
 use Rattle.clause_store.proofs.Lists.{set_of-firsts, once-firsts}
 
 -- ---- The entries of a table
@@ -138,17 +138,17 @@ store_same p es es' rows = same _ _ (λ q. get-store_of p es' q ∙ ap (λ o. op
 
 -- ---- What holds inside
 
-pub inside-same : (p : Entries) (es es' : Table) (a a' w w' : Pairs) (ids : List Noted)
+pub inside-same : {indexed : Bool} (p : Entries) (es es' : Table) (a a' w w' : Pairs) (ids : List Noted)
     → ((q : ℕ) → row es' q ≡ row es q) → ((k i : ℕ) → has_pair a' k i ≡ has_pair a k i) → ((k i : ℕ) → has_pair w' k i ≡ has_pair w k i)
-    → IsInside p es a w ids → IsInside p es' a' w' ids
+    → IsInside indexed p es a w ids → IsInside indexed p es' a' w' ids
 inside-same p es es' a a' w w' ids rows in_a in_w h = record {
   rows = λ q k e. h.rows q k (sym (rows q) ∙ e);
-  active_index = λ key q. in_a key q ∙ h.active_index key q ∙ ap (stands ids true key) (sym (rows q));
-  weakened_index = λ key q. in_w key q ∙ h.weakened_index key q ∙ ap (stands ids false key) (sym (rows q));
+  active_index = λ t key q. in_a key q ∙ h.active_index t key q ∙ ap (stands ids true key) (sym (rows q));
+  weakened_index = λ t key q. in_w key q ∙ h.weakened_index t key q ∙ ap (stands ids false key) (sym (rows q));
 }
 
 -- the slots of two rows differ
-pub slots_differ : (p : Entries) (es : Table) (ids : List Noted) (q r : ℕ) (k j : Kept) → AreRows p ids es → nat_eq r q ≡ false → row es q ≡ Some k → row es r ≡ Some j → k.slot ≢ j.slot
+pub slots_differ : {indexed : Bool} (p : Entries) (es : Table) (ids : List Noted) (q r : ℕ) (k j : Kept) → AreRows indexed p ids es → nat_eq r q ≡ false → row es q ≡ Some k → row es r ≡ Some j → k.slot ≢ j.slot
 slots_differ p es ids q r k j h n e f same_slot =
     let a : IsListed ids k.slot q = (h q k e).listed in
     let b : IsListed ids j.slot r = (h r j f).listed in
@@ -156,7 +156,7 @@ slots_differ p es ids q r k j h n e f same_slot =
     both_ways _ n (eq-eqb r q (sym c))
 
 -- a slot that isn't live is no row's
-pub slot_dead : (p : Entries) (es : Table) (ids : List Noted) (s q : ℕ) (k : Kept) → AreRows p ids es → get p s ≡ None → row es q ≡ Some k → k.slot ≢ s
+pub slot_dead : {indexed : Bool} (p : Entries) (es : Table) (ids : List Noted) (s q : ℕ) (k : Kept) → AreRows indexed p ids es → get p s ≡ None → row es q ≡ Some k → k.slot ≢ s
 slot_dead p es ids s q k h dead e same_slot =
     let l : is_some (get p s) ≡ true = subst (λ z. is_some (get p z) ≡ true) same_slot (h q k e).live in
     both_ways _ (ap is_some dead) l
@@ -187,21 +187,21 @@ freed p s e dead = same_map nat_cmp_total nat_cmp-IsAntisymmetric _ _ (λ q. get
     ]
 
 -- an id noted at a slot that isn't live
-module _ (p : Entries) (es : Table) (ids ids' : List Noted) (s : ℕ) (h : AreRows p ids es) (dead : get p s ≡ None) (note : SameListed ids ids' s) where
+module _ {indexed : Bool} (p : Entries) (es : Table) (ids ids' : List Noted) (s : ℕ) (h : AreRows indexed p ids es) (dead : get p s ≡ None) (note : SameListed ids ids' s) where
   note_of : (q : ℕ) (k : Kept) → row es q ≡ Some k → (k.slot < length ids') × (noted ids' k.slot ≡ noted ids k.slot)
   note_of q k e = note k.slot (slot_dead p es ids s q k h dead e) (h q k e).listed.0
 
-  pub rows-noted : AreRows p ids' es
-  rows-noted = λ q k e. let r = h q k e in let n = note_of q k e in record { live = r.live; listed = (n.0, ap (λ z. z.id) n.1 ∙ r.listed.1); once = r.once; keyed = ap (λ z. z.key) n.1 ∙ r.keyed }
+  pub rows-noted : AreRows indexed p ids' es
+  rows-noted = λ q k e. let r = h q k e in let n = note_of q k e in record { live = r.live; listed = (n.0, ap (λ z. z.id) n.1 ∙ r.listed.1); once = r.once; keyed = λ t. ap (λ z. z.key) n.1 ∙ r.keyed t }
 
-  pub index-noted : (state : Bool) (x : Pairs) → IsIndex ids state x es → IsIndex ids' state x es
-  index-noted state x g = λ c q. g c q ∙ stands-noted c q (row es q) refl
+  pub index-noted : (state : Bool) (x : Pairs) → IsIndex indexed ids state x es → IsIndex indexed ids' state x es
+  index-noted state x g = λ t c q. g t c q ∙ stands-noted c q (row es q) refl
     where
       stands-noted : (c q : ℕ) (o : Option Kept) → row es q ≡ o → stands ids state c o ≡ stands ids' state c o
       stands-noted c q None e = refl
       stands-noted c q (Some k) e = ap (λ z. nat_eq z.key c && is_state state k.active) (sym (note_of q k e).1)
 
-pub inside-noted : (p : Entries) (es : Table) (a w : Pairs) (ids ids' : List Noted) (s : ℕ) → IsInside p es a w ids → get p s ≡ None → SameListed ids ids' s → IsInside p es a w ids'
+pub inside-noted : {indexed : Bool} (p : Entries) (es : Table) (a w : Pairs) (ids ids' : List Noted) (s : ℕ) → IsInside indexed p es a w ids → get p s ≡ None → SameListed ids ids' s → IsInside indexed p es a w ids'
 inside-noted p es a w ids ids' s h dead note = record {
   rows = rows-noted p es ids ids' s h.rows dead note;
   active_index = index-noted p es ids ids' s h.rows dead note true a h.active_index;
@@ -209,45 +209,45 @@ inside-noted p es a w ids ids' s h dead note = record {
 }
 
 -- rows with one put, where the entries of the others stay
-pub rows_put : (p p' : Entries) (es es' : Table) (ids : List Noted) (id : ℕ) (k : Kept)
+pub rows_put : {indexed : Bool} (p p' : Entries) (es es' : Table) (ids : List Noted) (id : ℕ) (k : Kept)
     → ((q : ℕ) → row es' q ≡ cond (nat_eq id q) (Some k) (row es q))
     → ((q : ℕ) (r : Kept) → nat_eq id q ≡ false → row es q ≡ Some r → get p' r.slot ≡ get p r.slot)
-    → IsRow (get p' k.slot) ids id k → AreRows p ids es → AreRows p' ids es'
-rows_put p p' es es' ids id k rows entries here h = λ q r e. by_case q r (cases_Bool (nat_eq id q)) e
+    → IsRow indexed (get p' k.slot) ids id k → AreRows indexed p ids es → AreRows indexed p' ids es'
+rows_put {indexed} p p' es es' ids id k rows entries here h = λ q r e. by_case q r (cases_Bool (nat_eq id q)) e
   where
-    by_case : (q : ℕ) (r : Kept) → (nat_eq id q ≡ true) ⊎ (nat_eq id q ≡ false) → row es' q ≡ Some r → IsRow (get p' r.slot) ids q r
+    by_case : (q : ℕ) (r : Kept) → (nat_eq id q ≡ true) ⊎ (nat_eq id q ≡ false) → row es' q ≡ Some r → IsRow indexed (get p' r.slot) ids q r
     by_case q r (inl y) e =
         let g : Some k ≡ Some r = ap (λ b. cond b (Some k) (row es q)) (sym y) ∙ sym (rows q) ∙ e in
-        subst (λ z. IsRow (get p' z.slot) ids q z) (same_Some k r g) (subst (λ z. IsRow (get p' k.slot) ids z k) (eqb-true id q y) here)
+        subst (λ z. IsRow indexed (get p' z.slot) ids q z) (same_Some k r g) (subst (λ z. IsRow indexed (get p' k.slot) ids z k) (eqb-true id q y) here)
     by_case q r (inr n) e =
         let g : row es q ≡ Some r = ap (λ b. cond b (Some k) (row es q)) (sym n) ∙ sym (rows q) ∙ e in
-        subst (λ z. IsRow z ids q r) (sym (entries q r n g)) (h q r g)
+        subst (λ z. IsRow indexed z ids q r) (sym (entries q r n g)) (h q r g)
 
-rows_cut : (p p' : Entries) (es es' : Table) (ids : List Noted) (id : ℕ)
+rows_cut : {indexed : Bool} (p p' : Entries) (es es' : Table) (ids : List Noted) (id : ℕ)
     → ((q : ℕ) → row es' q ≡ cond (nat_eq id q) None (row es q))
     → ((q : ℕ) (r : Kept) → nat_eq id q ≡ false → row es q ≡ Some r → get p' r.slot ≡ get p r.slot)
-    → AreRows p ids es → AreRows p' ids es'
-rows_cut p p' es es' ids id rows entries h = λ q r e. by_case q r (cases_Bool (nat_eq id q)) e
+    → AreRows indexed p ids es → AreRows indexed p' ids es'
+rows_cut {indexed} p p' es es' ids id rows entries h = λ q r e. by_case q r (cases_Bool (nat_eq id q)) e
   where
-    by_case : (q : ℕ) (r : Kept) → (nat_eq id q ≡ true) ⊎ (nat_eq id q ≡ false) → row es' q ≡ Some r → IsRow (get p' r.slot) ids q r
+    by_case : (q : ℕ) (r : Kept) → (nat_eq id q ≡ true) ⊎ (nat_eq id q ≡ false) → row es' q ≡ Some r → IsRow indexed (get p' r.slot) ids q r
     by_case q r (inl y) e =
         let g : None ≡ Some r = ap (λ b. cond b None (row es q)) (sym y) ∙ sym (rows q) ∙ e in absurd (none-some r g)
     by_case q r (inr n) e =
         let g : row es q ≡ Some r = ap (λ b. cond b None (row es q)) (sym n) ∙ sym (rows q) ∙ e in
-        subst (λ z. IsRow z ids q r) (sym (entries q r n g)) (h q r g)
+        subst (λ z. IsRow indexed z ids q r) (sym (entries q r n g)) (h q r g)
 
 -- ---- The indices
 
 -- an index with a pair, and the row of its id as it stands
-index_put : (ids : List Noted) (state : Bool) (s s' : Pairs) (es es' : Table) (key id : ℕ) (k : Kept) → IsIndex ids state s es
-    → ((c i : ℕ) → has_pair s' c i ≡ ((nat_eq key c && nat_eq id i) || has_pair s c i))
+index_put : {indexed : Bool} (ids : List Noted) (state : Bool) (s s' : Pairs) (es es' : Table) (key id : ℕ) (k : Kept) → IsIndex indexed ids state s es
+    → (IsTrue indexed → (c i : ℕ) → has_pair s' c i ≡ ((nat_eq key c && nat_eq id i) || has_pair s c i))
     → ((q : ℕ) → row es' q ≡ cond (nat_eq id q) (Some k) (row es q))
-    → (noted ids k.slot).key ≡ key → is_state state k.active ≡ true → ((c : ℕ) → stands ids state c (row es id) ≡ false)
-    → IsIndex ids state s' es'
-index_put ids state s s' es es' key id k h pairs rows keyed on off = λ c q. pairs c q ∙ ap (λ b. (nat_eq key c && nat_eq id q) || b) (h c q) ∙ at c q ∙ ap (stands ids state c) (sym (rows q))
+    → (IsTrue indexed → (noted ids k.slot).key ≡ key) → is_state state k.active ≡ true → ((c : ℕ) → stands ids state c (row es id) ≡ false)
+    → IsIndex indexed ids state s' es'
+index_put ids state s s' es es' key id k h pairs rows keyed_if on off = λ t c q. pairs t c q ∙ ap (λ b. (nat_eq key c && nat_eq id q) || b) (h t c q) ∙ at (keyed_if t) c q ∙ ap (stands ids state c) (sym (rows q))
   where
-    at : (c q : ℕ) → ((nat_eq key c && nat_eq id q) || stands ids state c (row es q)) ≡ stands ids state c (cond (nat_eq id q) (Some k) (row es q))
-    at c q = elim (cases_Bool (nat_eq id q)) [
+    at : (noted ids k.slot).key ≡ key → (c q : ℕ) → ((nat_eq key c && nat_eq id q) || stands ids state c (row es q)) ≡ stands ids state c (cond (nat_eq id q) (Some k) (row es q))
+    at keyed c q = elim (cases_Bool (nat_eq id q)) [
       | inl y ↦ let o : stands ids state c (row es q) ≡ false = subst (λ z. stands ids state c (row es z) ≡ false) (eqb-true id q y) (off c) in rw (y, o, keyed, on) (regroup (nat_eq key c))
       | inr n ↦ rw n (drop_and (nat_eq key c) (stands ids state c (row es q)))
     ]
@@ -261,12 +261,12 @@ index_put ids state s s' es es' key id k h pairs rows keyed on off = λ c q. pai
         drop_and false d = refl
 
 -- an index without the pair of a row that has left its state
-index_cut : (ids : List Noted) (state : Bool) (s s' : Pairs) (es es' : Table) (key id : ℕ) (k : Kept) → IsIndex ids state s es
-    → row es id ≡ Some k → (noted ids k.slot).key ≡ key
-    → ((c i : ℕ) → has_pair s' c i ≡ (not (nat_eq key c && nat_eq id i) && has_pair s c i))
+index_cut : {indexed : Bool} (ids : List Noted) (state : Bool) (s s' : Pairs) (es es' : Table) (key id : ℕ) (k : Kept) → IsIndex indexed ids state s es
+    → row es id ≡ Some k → (IsTrue indexed → (noted ids k.slot).key ≡ key)
+    → (IsTrue indexed → (c i : ℕ) → has_pair s' c i ≡ (not (nat_eq key c && nat_eq id i) && has_pair s c i))
     → ((c : ℕ) → stands ids state c (row es' id) ≡ false) → ((q : ℕ) → nat_eq id q ≡ false → row es' q ≡ row es q)
-    → IsIndex ids state s' es'
-index_cut ids state s s' es es' key id k h here keyed pairs off others = λ c q. pairs c q ∙ ap (λ b. not (nat_eq key c && nat_eq id q) && b) (h c q) ∙ at c q
+    → IsIndex indexed ids state s' es'
+index_cut ids state s s' es es' key id k h here keyed_if pairs off others = λ t c q. pairs t c q ∙ ap (λ b. not (nat_eq key c && nat_eq id q) && b) (h t c q) ∙ at (keyed_if t) c q
   where
     gone : (a b : Bool) → (not (a && true) && (a && b)) ≡ false
     gone true b = refl
@@ -276,18 +276,18 @@ index_cut ids state s s' es es' key id k h here keyed pairs off others = λ c q.
     stays true b = refl
     stays false b = refl
 
-    at : (c q : ℕ) → (not (nat_eq key c && nat_eq id q) && stands ids state c (row es q)) ≡ stands ids state c (row es' q)
-    at c q = elim (cases_Bool (nat_eq id q)) [
+    at : (noted ids k.slot).key ≡ key → (c q : ℕ) → (not (nat_eq key c && nat_eq id q) && stands ids state c (row es q)) ≡ stands ids state c (row es' q)
+    at keyed c q = elim (cases_Bool (nat_eq id q)) [
       | inl y ↦ let f : row es q ≡ Some k = subst (λ z. row es z ≡ Some k) (eqb-true id q y) here in
           let o : stands ids state c (row es' q) ≡ false = subst (λ z. stands ids state c (row es' z) ≡ false) (eqb-true id q y) (off c) in rw (y, f, o, keyed) (gone (nat_eq key c) (is_state state k.active))
       | inr n ↦ rw (n, others q n) (stays (nat_eq key c) (stands ids state c (row es q)))
     ]
 
 -- an index that a change of one row doesn't touch
-index_kept : (ids : List Noted) (state : Bool) (s : Pairs) (es es' : Table) (id : ℕ) → IsIndex ids state s es
+index_kept : {indexed : Bool} (ids : List Noted) (state : Bool) (s : Pairs) (es es' : Table) (id : ℕ) → IsIndex indexed ids state s es
     → ((c : ℕ) → stands ids state c (row es' id) ≡ stands ids state c (row es id)) → ((q : ℕ) → nat_eq id q ≡ false → row es' q ≡ row es q)
-    → IsIndex ids state s es'
-index_kept ids state s es es' id h here others = λ c q. h c q ∙ at c q
+    → IsIndex indexed ids state s es'
+index_kept ids state s es es' id h here others = λ t c q. h t c q ∙ at c q
   where
     at : (c q : ℕ) → stands ids state c (row es q) ≡ stands ids state c (row es' q)
     at c q = elim (cases_Bool (nat_eq id q)) [
@@ -350,13 +350,13 @@ lits_at-row p es q s e =
       | inr n ↦ let g : None ≡ Some s = rw n at f in absurd (none-some s g)
     ]
 
-pub pooled : (p : Entries) (es : Table) (ids : List Noted) → AreRows p ids es → ArePooled p es
+pub pooled : {indexed : Bool} (p : Entries) (es : Table) (ids : List Noted) → AreRows indexed p ids es → ArePooled p es
 pooled p es ids h = λ q k e. let r = h q k e in (r.live, r.once)
 
 pub set_of_set : (ls : List ℕ) → set_of (set_of ls) ≡ set_of ls
 set_of_set ls = sym (set_of-unique (set_of ls) (set_of ls) (ascends_set_of ls) (λ l. refl))
 
-pub is_store : (p : Entries) (es : Table) (ids : List Noted) → AreRows p ids es → IsStore (store_of p es)
+pub is_store : {indexed : Bool} (p : Entries) (es : Table) (ids : List Noted) → AreRows indexed p ids es → IsStore (store_of p es)
 is_store p es ids h = record { slots_apart = apart; same_literals = lists; sets = sets }
   where
     apart : (a b s : ℕ) → slot_at (store_of p es) a ≡ Some s → slot_at (store_of p es) b ≡ Some s → a ≡ b
@@ -392,31 +392,58 @@ is_store p es ids h = record { slots_apart = apart; same_literals = lists; sets 
 
 -- ---- Ids by set
 
--- a pair of an index whose row has the set is that of an id in this state
-pub index_at : (ids : List Noted) (state : Bool) (p : Entries) (es : Table) (s : Pairs) (set : List ℕ) (i : ℕ) → IsIndex ids state s es
-    → has_pair s (key_of set) i ≡ true → literals_in p es i ≡ Some set → IsTrue (is_some (row_slot state (row es i))) × (literals_at (store_of p es) i ≡ set)
-index_at ids state p es s set i h m e = (on (row es i) (sym (h (key_of set) i) ∙ m), literals_at-row p es i ∙ ap (λ o. unwrap_or o []) e)
-  where
-    on : (o : Option Kept) → stands ids state (key_of set) o ≡ true → is_some (row_slot state o) ≡ true
-    on None f = cc
-    on (Some k) f = let g : is_state state k.active ≡ true = (and_parts (nat_eq (noted ids k.slot).key (key_of set)) _ f).1 in rw g refl
-
-pub index_from : (state : Bool) (p : Entries) (es : Table) (ids : List Noted) (s : Pairs) (set : List ℕ) (i : ℕ) → AreRows p ids es → IsIndex ids state s es
-    → IsTrue (is_some (row_slot state (row es i))) → literals_at (store_of p es) i ≡ set → (has_pair s (key_of set) i ≡ true) × (literals_in p es i ≡ Some set)
-index_from state p es ids s set i rows h on e = (h (key_of set) i ∙ stand (row es i) refl on (sym (literals_at-row p es i) ∙ e), lits (row es i) on (sym (literals_at-row p es i) ∙ e))
+-- the set of a row in a state
+row_literals : (state : Bool) (p : Entries) (es : Table) (set : List ℕ) (i : ℕ) → is_some (row_slot state (row es i)) ≡ true → literals_at (store_of p es) i ≡ set → literals_in p es i ≡ Some set
+row_literals state p es set i on e = lits (row es i) on (sym (literals_at-row p es i) ∙ e)
   where
     lits : (o : Option Kept) → is_some (row_slot state o) ≡ true → unwrap_or (option_map (λ k. set_of (entry_of (get p k.slot)).lits) o) [] ≡ set → option_map (λ k. set_of (entry_of (get p k.slot)).lits) o ≡ Some set
     lits None f g = cc
     lits (Some k) f g = ap (λ z. Some z) g
 
-    stand : (o : Option Kept) → row es i ≡ o → is_some (row_slot state o) ≡ true → unwrap_or (option_map (λ k. set_of (entry_of (get p k.slot)).lits) o) [] ≡ set → stands ids state (key_of set) o ≡ true
+-- a pair of an index whose row has the set is that of an id in this state
+pub index_at : {indexed : Bool} (ids : List Noted) (state : Bool) (p : Entries) (es : Table) (s : Pairs) (set : List ℕ) (i : ℕ) → IsIndex indexed ids state s es → IsTrue indexed
+    → has_pair s (key_of set) i ≡ true → literals_in p es i ≡ Some set → IsRowWith state p es set i
+index_at ids state p es s set i h t m e = (on (row es i) (sym (h t (key_of set) i) ∙ m), e)
+  where
+    on : (o : Option Kept) → stands ids state (key_of set) o ≡ true → is_some (row_slot state o) ≡ true
+    on None f = cc
+    on (Some k) f = let g : is_state state k.active ≡ true = (and_parts (nat_eq (noted ids k.slot).key (key_of set)) _ f).1 in rw g refl
+
+-- the index has the id of a row in its state
+pub index_from : {indexed : Bool} (state : Bool) (p : Entries) (es : Table) (ids : List Noted) (s : Pairs) (set : List ℕ) (i : ℕ) → AreRows indexed p ids es → IsIndex indexed ids state s es → IsTrue indexed
+    → IsRowWith state p es set i → has_pair s (key_of set) i ≡ true
+index_from state p es ids s set i rows h t w = h t (key_of set) i ∙ stand (row es i) refl w.0 w.1
+  where
+    stand : (o : Option Kept) → row es i ≡ o → is_some (row_slot state o) ≡ true → option_map (λ k. set_of (entry_of (get p k.slot)).lits) o ≡ Some set → stands ids state (key_of set) o ≡ true
     stand None r f g = cc
     stand (Some k) r f g =
-        let keyed : (noted ids k.slot).key ≡ key_of set = (rows i k r).keyed ∙ ap key_of g in
+        let keyed : (noted ids k.slot).key ≡ key_of set = (rows i k r).keyed t ∙ ap key_of (same_Some _ set g) in
         elim (cases_Bool (is_state state k.active)) [
           | inl y ↦ rw (y, eq-eqb (noted ids k.slot).key (key_of set) keyed) refl
           | inr n ↦ absurd (both_ways _ (let z : false ≡ true = rw n at f in sym z) refl)
         ]
+
+-- the id of a row is noted of a slot
+pub row_noted : {indexed : Bool} (state : Bool) (p : Entries) (es : Table) (ids : List Noted) (set : List ℕ) (i : ℕ) → AreRows indexed p ids es → IsRowWith state p es set i → (s : ℕ) × (s < length ids) × ((noted ids s).id ≡ i)
+row_noted state p es ids set i h w = at (row es i) refl w.0
+  where
+    at : (o : Option Kept) → row es i ≡ o → is_some (row_slot state o) ≡ true → (s : ℕ) × (s < length ids) × ((noted ids s).id ≡ i)
+    at None r f = cc
+    at (Some k) r f = let l = (h i k r).listed in (k.slot, l.0, l.1)
+
+-- what is least among the ids that are noted is least among those of the rows
+pub least_id : {indexed : Bool} (state : Bool) (p : Entries) (es : Table) (ids : List Noted) (set : List ℕ) (i : ℕ) → AreRows indexed p ids es
+    → ((s : ℕ) → s < length ids → IsRowWith state p es set (noted ids s).id → i ≤ (noted ids s).id) → (x : ℕ) → IsRowWith state p es set x → i ≤ x
+least_id state p es ids set i rows h x w =
+    let n = row_noted state p es ids set x rows w in
+    subst (λ z. i ≤ z) n.2 (h n.0 n.1 (subst (λ z. IsRowWith state p es set z) (sym n.2) w))
+
+-- where no id that is noted is such a row's, none is
+pub none_id : {indexed : Bool} (state : Bool) (p : Entries) (es : Table) (ids : List Noted) (set : List ℕ) → AreRows indexed p ids es
+    → ((s : ℕ) → s < length ids → IsRowWith state p es set (noted ids s).id → ⊥) → (x : ℕ) → IsRowWith state p es set x → ⊥
+none_id state p es ids set rows h x w =
+    let n = row_noted state p es ids set x rows w in
+    h n.0 n.1 (subst (λ z. IsRowWith state p es set z) (sym n.2) w)
 
 -- ---- The changes
 
@@ -435,16 +462,16 @@ here_of : (es es' : Table) (id : ℕ) (o : Option Kept) → ((q : ℕ) → row e
 here_of es es' id o rows = rows id ∙ ap (λ b. cond b o (row es id)) (eq-eqb id id refl)
 
 -- what is known when a row is entered
-pub record Adds (p : Entries) (es es' : Table) (a a' w : Pairs) (ids : List Noted) (id key s : ℕ) (ls : List ℕ) : Type 0 where
-  pub inside : IsInside p es a w ids
+pub record Adds (indexed : Bool) (p : Entries) (es es' : Table) (a a' w : Pairs) (ids : List Noted) (id key s : ℕ) (ls : List ℕ) : Type 0 where
+  pub inside : IsInside indexed p es a w ids
   pub dead : get p s ≡ None
   pub listed : (s < length ids) × (noted ids s ≡ record { id = id; key = key })
   pub free : row es id ≡ None
-  pub keyed : key ≡ key_of (set_of ls)
+  pub keyed : IsTrue indexed → key ≡ key_of (set_of ls)
   pub rows : (q : ℕ) → row es' q ≡ cond (nat_eq id q) (Some (record { slot = s; active = true })) (row es q)
-  pub pairs : (k i : ℕ) → has_pair a' k i ≡ ((nat_eq key k && nat_eq id i) || has_pair a k i)
+  pub pairs : IsTrue indexed → (k i : ℕ) → has_pair a' k i ≡ ((nat_eq key k && nat_eq id i) || has_pair a k i)
 
-module _ (p : Entries) (es es' : Table) (a a' w : Pairs) (ids : List Noted) (id key s : ℕ) (ls : List ℕ) (h : Adds p es es' a a' w ids id key s ls) where
+module _ {indexed : Bool} (p : Entries) (es es' : Table) (a a' w : Pairs) (ids : List Noted) (id key s : ℕ) (ls : List ℕ) (h : Adds indexed p es es' a a' w ids id key s ls) where
   entries-added : (q : ℕ) (r : Kept) → nat_eq id q ≡ false → row es q ≡ Some r → get (insert p s (new_entry (firsts ls))) r.slot ≡ get p r.slot
   entries-added q r n e = get_insert_other p s r.slot (new_entry (firsts ls)) (slot_dead p es ids s q r h.inside.rows h.dead e)
 
@@ -455,14 +482,14 @@ module _ (p : Entries) (es es' : Table) (a a' w : Pairs) (ids : List Noted) (id 
       store_put p (insert p s (new_entry (firsts ls))) es es' id k (new_clause ls s) h.rows entries-added
       (ap (λ o. held_of o k) e ∙ (λ i. active_clause (set_of-firsts ls i) (firsts ls) s))
 
-  pub inside-added : IsInside (insert p s (new_entry (firsts ls))) es' a' w ids
+  pub inside-added : IsInside indexed (insert p s (new_entry (firsts ls))) es' a' w ids
   inside-added =
       let k : Kept = record { slot = s; active = true } in
       let e : get (insert p s (new_entry (firsts ls))) s ≡ Some (new_entry (firsts ls)) = get_insert_same p s (new_entry (firsts ls)) in
-      let r : IsRow (Some (new_entry (firsts ls))) ids id k = record { live = refl; listed = (h.listed.0, ap (λ z. z.id) h.listed.1); once = once-firsts ls [] tt; keyed = ap (λ z. z.key) h.listed.1 ∙ h.keyed ∙ ap key_of (sym (set_of-firsts ls)) } in
+      let r : IsRow indexed (Some (new_entry (firsts ls))) ids id k = record { live = refl; listed = (h.listed.0, ap (λ z. z.id) h.listed.1); once = once-firsts ls [] tt; keyed = λ t. ap (λ z. z.key) h.listed.1 ∙ h.keyed t ∙ ap key_of (sym (set_of-firsts ls)) } in
       record {
-        rows = rows_put p (insert p s (new_entry (firsts ls))) es es' ids id k h.rows entries-added (subst (λ o. IsRow o ids id k) (sym e) r) h.inside.rows;
-        active_index = index_put ids true a a' es es' key id k h.inside.active_index h.pairs h.rows (ap (λ z. z.key) h.listed.1) refl (λ c. ap (stands ids true c) h.free);
+        rows = rows_put p (insert p s (new_entry (firsts ls))) es es' ids id k h.rows entries-added (subst (λ o. IsRow indexed o ids id k) (sym e) r) h.inside.rows;
+        active_index = index_put ids true a a' es es' key id k h.inside.active_index h.pairs h.rows (λ t. ap (λ z. z.key) h.listed.1) refl (λ c. ap (stands ids true c) h.free);
         weakened_index = index_kept ids false w es es' id h.inside.weakened_index
             (λ c. ap (stands ids false c) (here_of es es' id (Some k) h.rows) ∙ and_false (nat_eq (noted ids s).key c) ∙ sym (ap (stands ids false c) h.free)) (others_of es es' id (Some k) h.rows);
       }
@@ -476,22 +503,22 @@ module _ (p : Entries) (es es' : Table) (a a' w : Pairs) (ids : List Noted) (id 
       let f = found true (row es q) s (sym (slot_at-row p es q) ∙ e) in slot_dead p es ids s q f.k h.inside.rows h.dead f.is f.slot
 
 -- what is known when an active row leaves
-pub record Cuts (p : Entries) (es es' : Table) (a a' w : Pairs) (ids : List Noted) (id key : ℕ) (k : Kept) : Type 0 where
-  pub inside : IsInside p es a w ids
+pub record Cuts (indexed : Bool) (p : Entries) (es es' : Table) (a a' w : Pairs) (ids : List Noted) (id key : ℕ) (k : Kept) : Type 0 where
+  pub inside : IsInside indexed p es a w ids
   pub here : row es id ≡ Some k
   pub on : k.active ≡ true
-  pub keyed : (noted ids k.slot).key ≡ key
+  pub keyed : IsTrue indexed → (noted ids k.slot).key ≡ key
   pub rows : (q : ℕ) → row es' q ≡ cond (nat_eq id q) None (row es q)
-  pub pairs : (c i : ℕ) → has_pair a' c i ≡ (not (nat_eq key c && nat_eq id i) && has_pair a c i)
+  pub pairs : IsTrue indexed → (c i : ℕ) → has_pair a' c i ≡ (not (nat_eq key c && nat_eq id i) && has_pair a c i)
 
-module _ (p : Entries) (es es' : Table) (a a' w : Pairs) (ids : List Noted) (id key : ℕ) (k : Kept) (h : Cuts p es es' a a' w ids id key k) where
+module _ {indexed : Bool} (p : Entries) (es es' : Table) (a a' w : Pairs) (ids : List Noted) (id key : ℕ) (k : Kept) (h : Cuts indexed p es es' a a' w ids id key k) where
   entries-cut : (q : ℕ) (r : Kept) → nat_eq id q ≡ false → row es q ≡ Some r → get (remove p k.slot) r.slot ≡ get p r.slot
   entries-cut q r n e = get_remove_other p k.slot r.slot (slots_differ p es ids q id r k h.inside.rows n e h.here)
 
   pub store-cut : store_of (remove p k.slot) es' ≡ remove (store_of p es) id
   store-cut = store_cut p (remove p k.slot) es es' id h.rows entries-cut
 
-  pub inside-cut : IsInside (remove p k.slot) es' a' w ids
+  pub inside-cut : IsInside indexed (remove p k.slot) es' a' w ids
   inside-cut = record {
     rows = rows_cut p (remove p k.slot) es es' ids id h.rows entries-cut h.inside.rows;
     active_index = index_cut ids true a a' es es' key id k h.inside.active_index h.here h.keyed h.pairs (λ c. ap (stands ids true c) (here_of es es' id None h.rows)) (others_of es es' id None h.rows);
@@ -504,16 +531,16 @@ module _ (p : Entries) (es es' : Table) (a a' w : Pairs) (ids : List Noted) (id 
       and_false false = refl
 
 -- what is known when a row goes from one state to the other
-pub record Switches (p : Entries) (es es' : Table) (from from' to to' : Pairs) (ids : List Noted) (id key : ℕ) (k : Kept) (b : Bool) : Type 0 where
-  pub all : AreRows p ids es
-  pub from_index : IsIndex ids (not b) from es
-  pub to_index : IsIndex ids b to es
+pub record Switches (indexed : Bool) (p : Entries) (es es' : Table) (from from' to to' : Pairs) (ids : List Noted) (id key : ℕ) (k : Kept) (b : Bool) : Type 0 where
+  pub all : AreRows indexed p ids es
+  pub from_index : IsIndex indexed ids (not b) from es
+  pub to_index : IsIndex indexed ids b to es
   pub here : row es id ≡ Some k
-  pub keyed : (noted ids k.slot).key ≡ key
+  pub keyed : IsTrue indexed → (noted ids k.slot).key ≡ key
   pub off : k.active ≡ not b
   pub rows : (q : ℕ) → row es' q ≡ cond (nat_eq id q) (option_map (with_state b) (row es q)) (row es q)
-  pub cut : (c i : ℕ) → has_pair from' c i ≡ (not (nat_eq key c && nat_eq id i) && has_pair from c i)
-  pub put : (c i : ℕ) → has_pair to' c i ≡ ((nat_eq key c && nat_eq id i) || has_pair to c i)
+  pub cut : IsTrue indexed → (c i : ℕ) → has_pair from' c i ≡ (not (nat_eq key c && nat_eq id i) && has_pair from c i)
+  pub put : IsTrue indexed → (c i : ℕ) → has_pair to' c i ≡ ((nat_eq key c && nat_eq id i) || has_pair to c i)
 
 is_state-itself : (b : Bool) → is_state b b ≡ true
 is_state-itself true = refl
@@ -531,7 +558,7 @@ and_none : (a b : Bool) → b ≡ false → (a && b) ≡ false
 and_none true b e = e
 and_none false b e = refl
 
-module _ (p p' : Entries) (es es' : Table) (from from' to to' : Pairs) (ids : List Noted) (id key : ℕ) (k : Kept) (b : Bool) (h : Switches p es es' from from' to to' ids id key k b)
+module _ {indexed : Bool} (p p' : Entries) (es es' : Table) (from from' to to' : Pairs) (ids : List Noted) (id key : ℕ) (k : Kept) (b : Bool) (h : Switches indexed p es es' from from' to to' ids id key k b)
     (entries : (t : ℕ) → t ≢ k.slot → get p' t ≡ get p t) (e : Entry) (here : get p' k.slot ≡ Some e) (lits : e.lits ≡ (entry_of (get p k.slot)).lits) where
   entries-switched : (q : ℕ) (r : Kept) → nat_eq id q ≡ false → row es q ≡ Some r → get p' r.slot ≡ get p r.slot
   entries-switched q r n f = entries r.slot (slots_differ p es ids q id r k h.all n f h.here)
@@ -542,54 +569,56 @@ module _ (p p' : Entries) (es es' : Table) (from from' to to' : Pairs) (ids : Li
   pub store-switched : (c : Held) → held_of (Some e) (with_state b k) ≡ c → store_of p' es' ≡ insert (store_of p es) id c
   store-switched c f = store_put p p' es es' id (with_state b k) c rows-switched entries-switched (ap (λ o. held_of o (with_state b k)) here ∙ f)
 
-  pub all-switched : AreRows p' ids es'
+  pub all-switched : AreRows indexed p' ids es'
   all-switched =
       let r = h.all id k h.here in
-      let n : IsRow (Some e) ids id (with_state b k) = record { live = refl; listed = r.listed; once = subst IsOnce (sym lits) r.once; keyed = r.keyed ∙ ap (λ z. key_of (set_of z)) (sym lits) } in
-      rows_put p p' es es' ids id (with_state b k) rows-switched entries-switched (subst (λ o. IsRow o ids id (with_state b k)) (sym here) n) h.all
+      let n : IsRow indexed (Some e) ids id (with_state b k) = record { live = refl; listed = r.listed; once = subst IsOnce (sym lits) r.once; keyed = λ t. r.keyed t ∙ ap (λ z. key_of (set_of z)) (sym lits) } in
+      rows_put p p' es es' ids id (with_state b k) rows-switched entries-switched (subst (λ o. IsRow indexed o ids id (with_state b k)) (sym here) n) h.all
 
-  pub to-switched : IsIndex ids b to' es'
+  pub to-switched : IsIndex indexed ids b to' es'
   to-switched = index_put ids b to to' es es' key id (with_state b k) h.to_index h.put rows-switched h.keyed (is_state-itself b)
       (λ c. ap (stands ids b c) h.here ∙ and_none (nat_eq (noted ids k.slot).key c) (is_state b k.active) (ap (is_state b) h.off ∙ is_state-other b))
 
-  pub from-switched : IsIndex ids (not b) from' es'
+  pub from-switched : IsIndex indexed ids (not b) from' es'
   from-switched = index_cut ids (not b) from from' es es' key id k h.from_index h.here h.keyed h.cut
       (λ c. ap (stands ids (not b) c) (here_of es es' id (Some (with_state b k)) rows-switched) ∙ and_none (nat_eq (noted ids k.slot).key c) (is_state (not b) b) (is_state-back b)) (others_of es es' id (Some (with_state b k)) rows-switched)
 
 -- ---- At a slot
 
-pub listed_at : (p : Entries) (es : Table) (ids : List Noted) (m : Store) (id s : ℕ) → store_of p es ≡ m → AreRows p ids es → slot_at m id ≡ Some s → IsListed ids s id
+pub listed_at : {indexed : Bool} (p : Entries) (es : Table) (ids : List Noted) (m : Store) (id s : ℕ) → store_of p es ≡ m → AreRows indexed p ids es → slot_at m id ≡ Some s → IsListed ids s id
 listed_at p es ids m id s v h e =
     let f = found true (row es id) s (sym (slot_at-row p es id) ∙ ap (λ z. slot_at z id) v ∙ e) in
     subst (λ z. IsListed ids z id) f.slot (h id f.k f.is).listed
 
 -- the slot of a row in a state is noted
-pub within_noted : (state : Bool) (p : Entries) (es : Table) (ids : List Noted) (id s : ℕ) → AreRows p ids es → row_slot state (row es id) ≡ Some s → s < length ids
+pub within_noted : {indexed : Bool} (state : Bool) (p : Entries) (es : Table) (ids : List Noted) (id s : ℕ) → AreRows indexed p ids es → row_slot state (row es id) ≡ Some s → s < length ids
 within_noted state p es ids id s h e = let f = found state (row es id) s e in subst (λ z. z < length ids) f.slot (h id f.k f.is).listed.0
 
-pub live_at : (p : Entries) (es : Table) (ids : List Noted) (m : Store) (id s : ℕ) → store_of p es ≡ m → AreRows p ids es → slot_at m id ≡ Some s → is_some (get p s) ≡ true
+pub live_at : {indexed : Bool} (p : Entries) (es : Table) (ids : List Noted) (m : Store) (id s : ℕ) → store_of p es ≡ m → AreRows indexed p ids es → slot_at m id ≡ Some s → is_some (get p s) ≡ true
 live_at p es ids m id s v h e =
     let f = found true (row es id) s (sym (slot_at-row p es id) ∙ ap (λ z. slot_at z id) v ∙ e) in
     subst (λ z. is_some (get p z) ≡ true) f.slot (h id f.k f.is).live
 
 -- ---- The least id of a set
 
-module _ (p : Entries) (es : Table) (a w : Pairs) (ids : List Noted) (m : Store) (set : List ℕ) (v : store_of p es ≡ m) (h : IsInside p es a w ids) where
-  pub active_at : (i : ℕ) → has_pair a (key_of set) i ≡ true → literals_in p es i ≡ Some set → IsActiveWith m set i
-  active_at i g e = let r = index_at ids true p es a set i h.active_index g e in
-      subst (λ z. IsActiveWith z set i) v (ap is_some (slot_at-row p es i) ∙ r.0, r.1)
+-- a row of this id with this set
+module _ (p : Entries) (es : Table) (m : Store) (set : List ℕ) (v : store_of p es ≡ m) where
+  -- an id of a row in a state with this set is that of a clause
+  pub active_row : (i : ℕ) → IsRowWith true p es set i → IsActiveWith m set i
+  active_row i g = subst (λ z. IsActiveWith z set i) v (ap is_some (slot_at-row p es i) ∙ g.0, literals_at-row p es i ∙ ap (λ o. unwrap_or o []) g.1)
 
-  pub active_from : (i : ℕ) → IsActiveWith m set i → (has_pair a (key_of set) i ≡ true) × (literals_in p es i ≡ Some set)
-  active_from i g = let q : IsActiveWith (store_of p es) set i = subst (λ z. IsActiveWith z set i) (sym v) g in
-      index_from true p es ids a set i h.rows h.active_index (sym (ap is_some (slot_at-row p es i)) ∙ q.0) q.1
+  pub row_active : (i : ℕ) → IsActiveWith m set i → IsRowWith true p es set i
+  row_active i g = let q : IsActiveWith (store_of p es) set i = subst (λ z. IsActiveWith z set i) (sym v) g in
+      let on : is_some (row_slot true (row es i)) ≡ true = sym (ap is_some (slot_at-row p es i)) ∙ q.0 in
+      (on, row_literals true p es set i on q.1)
 
-  pub weakened_at : (i : ℕ) → has_pair w (key_of set) i ≡ true → literals_in p es i ≡ Some set → IsWeakenedWith m set i
-  weakened_at i g e = let r = index_at ids false p es w set i h.weakened_index g e in
-      subst (λ z. IsWeakenedWith z set i) v (weakened-row p es i ∙ r.0, r.1)
+  pub weakened_row : (i : ℕ) → IsRowWith false p es set i → IsWeakenedWith m set i
+  weakened_row i g = subst (λ z. IsWeakenedWith z set i) v (weakened-row p es i ∙ g.0, literals_at-row p es i ∙ ap (λ o. unwrap_or o []) g.1)
 
-  pub weakened_from : (i : ℕ) → IsWeakenedWith m set i → (has_pair w (key_of set) i ≡ true) × (literals_in p es i ≡ Some set)
-  weakened_from i g = let q : IsWeakenedWith (store_of p es) set i = subst (λ z. IsWeakenedWith z set i) (sym v) g in
-      index_from false p es ids w set i h.rows h.weakened_index (sym (weakened-row p es i) ∙ q.0) q.1
+  pub row_weakened : (i : ℕ) → IsWeakenedWith m set i → IsRowWith false p es set i
+  row_weakened i g = let q : IsWeakenedWith (store_of p es) set i = subst (λ z. IsWeakenedWith z set i) (sym v) g in
+      let on : is_some (row_slot false (row es i)) ≡ true = sym (weakened-row p es i) ∙ q.0 in
+      (on, row_literals false p es set i on q.1)
 
 -- ---- Answers by case
 
@@ -624,7 +653,7 @@ free_row es q = by_row (row es q)
 
 -- ---- A row's entry
 
-pub entry_live : (p : Entries) (es : Table) (ids : List Noted) (id : ℕ) (k : Kept) → AreRows p ids es → row es id ≡ Some k → (e : Entry) × (get p k.slot ≡ Some e)
+pub entry_live : {indexed : Bool} (p : Entries) (es : Table) (ids : List Noted) (id : ℕ) (k : Kept) → AreRows indexed p ids es → row es id ≡ Some k → (e : Entry) × (get p k.slot ≡ Some e)
 entry_live p es ids id k h r = of (get p k.slot) (h id k r).live
   where
     of : (o : Option Entry) → is_some o ≡ true → (e : Entry) × (o ≡ Some e)
@@ -651,7 +680,7 @@ unlinked_at p s e g =
     get_insert_same (with_link p s which.One None) s _ ∙ ap (λ z. Some (record { lits = z.lits; one = z.one; two = None })) first
 
 -- a slot of a weakened row is no active clause's
-pub is_fresh : (p : Entries) (es : Table) (ids : List Noted) (id : ℕ) (k : Kept) → AreRows p ids es → row es id ≡ Some k → is_state false k.active ≡ true → IsFresh (store_of p es) k.slot
+pub is_fresh : {indexed : Bool} (p : Entries) (es : Table) (ids : List Noted) (id : ℕ) (k : Kept) → AreRows indexed p ids es → row es id ≡ Some k → is_state false k.active ≡ true → IsFresh (store_of p es) k.slot
 is_fresh p es ids id k h r off q e =
     let f = found true (row es q) k.slot (sym (slot_at-row p es q) ∙ e) in
     elim (cases_Bool (nat_eq id q)) [
@@ -660,7 +689,7 @@ is_fresh p es ids id k h r off q e =
       | inr n ↦ slots_differ p es ids q id f.k k h n f.is r f.slot
     ]
 
-pub restored : (p : Entries) (es : Table) (ids : List Noted) (m : Store) (id : ℕ) (k : Kept) (e : Entry) → store_of p es ≡ m → AreRows p ids es → row es id ≡ Some k → is_state false k.active ≡ true → get p k.slot ≡ Some e
+pub restored : {indexed : Bool} (p : Entries) (es : Table) (ids : List Noted) (m : Store) (id : ℕ) (k : Kept) (e : Entry) → store_of p es ≡ m → AreRows indexed p ids es → row es id ≡ Some k → is_state false k.active ≡ true → get p k.slot ≡ Some e
     → (n : Store) → ((c : Held) → held_of (Some (record { lits = e.lits; one = None; two = None })) (with_state true k) ≡ c → n ≡ insert (store_of p es) id c) → IsRestored m id n
 restored p es ids m id k e v h r off g n change =
     let set : set_of e.lits ≡ literals_at m id = literals_here p es m id k e v r g in

@@ -97,27 +97,31 @@ IsListed ids s q = (s < length ids) × ((noted ids s).id ≡ q)
 abbrev pub SameListed : List Noted → List Noted → ℕ → Type 0
 SameListed old new s = (t : ℕ) → t ≢ s → t < length old → (t < length new) × (noted new t ≡ noted old t)
 
--- what holds of a row of an id, with its entry in the pool
-pub record IsRow (o : Option Entry) (ids : List Noted) (q : ℕ) (k : Kept) : Type 0 where
+-- an id is that of a row in this state with this set
+abbrev pub IsRowWith : Bool → Entries → Table → List ℕ → ℕ → Type 0
+IsRowWith state pool es set q = IsTrue (is_some (row_slot state (row es q))) × (literals_in pool es q ≡ Some set)
+
+-- what holds of a row of an id, with its entry in the pool; its key is noted in a store with an index
+pub record IsRow (indexed : Bool) (o : Option Entry) (ids : List Noted) (q : ℕ) (k : Kept) : Type 0 where
   pub live : IsTrue (is_some o)
   pub listed : IsListed ids k.slot q
   pub once : IsOnce (entry_of o).lits
-  pub keyed : (noted ids k.slot).key ≡ key_of (set_of (entry_of o).lits)
+  pub keyed : IsTrue indexed → (noted ids k.slot).key ≡ key_of (set_of (entry_of o).lits)
 
 -- each row has a live entry with each literal once
 abbrev pub ArePooled : Entries → Table → Type 0
 ArePooled pool es = (q : ℕ) (k : Kept) → row es q ≡ Some k → IsTrue (is_some (get pool k.slot)) × IsOnce (entry_of (get pool k.slot)).lits
 
 -- each row holds
-abbrev pub AreRows : Entries → List Noted → Table → Type 0
-AreRows pool ids es = (q : ℕ) (k : Kept) → row es q ≡ Some k → IsRow (get pool k.slot) ids q k
+abbrev pub AreRows : Bool → Entries → List Noted → Table → Type 0
+AreRows indexed pool ids es = (q : ℕ) (k : Kept) → row es q ≡ Some k → IsRow indexed (get pool k.slot) ids q k
 
--- the index has the pairs of the rows in this state
-abbrev pub IsIndex : List Noted → Bool → Pairs → Table → Type 0
-IsIndex ids state s es = (key q : ℕ) → has_pair s key q ≡ stands ids state key (row es q)
+-- the index has the pairs of the rows in this state, in a store that keeps an index
+abbrev pub IsIndex : Bool → List Noted → Bool → Pairs → Table → Type 0
+IsIndex indexed ids state s es = IsTrue indexed → (key q : ℕ) → has_pair s key q ≡ stands ids state key (row es q)
 
--- what holds inside every store
-pub record IsInside (pool : Entries) (es : Table) (active weakened : Pairs) (ids : List Noted) : Type 0 where
-  pub rows : AreRows pool ids es
-  pub active_index : IsIndex ids true active es
-  pub weakened_index : IsIndex ids false weakened es
+-- what holds inside every store, with an index or without
+pub record IsInside (indexed : Bool) (pool : Entries) (es : Table) (active weakened : Pairs) (ids : List Noted) : Type 0 where
+  pub rows : AreRows indexed pool ids es
+  pub active_index : IsIndex indexed ids true active es
+  pub weakened_index : IsIndex indexed ids false weakened es

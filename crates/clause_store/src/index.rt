@@ -134,7 +134,7 @@ fn is_set(lits: &[Lit], set: &LitSet) -> bool
 }
 
 /// Whether a clause that is kept has this set.
-fn is_clause(clauses: &Table, pool: &Pool, id: u64, set: &LitSet) -> bool
+pub(crate) fn is_clause(clauses: &Table, pool: &Pool, id: u64, set: &LitSet) -> bool
     requires { ArePooled pool.now clauses.now }
     ensures { IsTrue result ↔ (literals_in pool.now clauses.now id ≡ Some set.now) }
 {
@@ -190,7 +190,7 @@ fn least_first(
 }
 
 /// The lesser of two ids, of which each may be missing.
-fn lesser(a: Option<u64>, b: Option<u64>) -> Option<u64>
+pub(crate) fn lesser(a: Option<u64>, b: Option<u64>) -> Option<u64>
     ensures { result ≡ least_of a b }
 {
     match (a, b) {

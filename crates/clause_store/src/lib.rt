@@ -1,7 +1,7 @@
 //! Clauses by id, each active or weakened. The literals of a clause lie in a pool, each once, and the pool's slot is the
 //! name by which propagation speaks of an active clause. An ordinary id is found by one read of a table, and one too large
 //! for the count of clauses through a map. The ids of a literal set are found by the set's key: one through a map, and the
-//! further ids of a key through ordered pairs of key and id.
+//! further ids of a key through ordered pairs of key and id. A store whose callers name clauses by ids keeps no such index.
 #![tactic(auto)]
 
 ghost use Rattle.std.specs.Prelude.{◌≡◌, ℕ, ◌<◌, ◌≤◌, List, length, slice_index, OnOk, IfOk, IfErr, IfSome, IfNone, IsTrue, true, false, Some, None};
@@ -42,6 +42,8 @@ pub struct Store {
     active: index::Pairs,
     weakened: index::Pairs,
     noted: Vec<rows::Noted>,
+    // Whether the two indices are kept.
+    indexed: bool,
     alloc: Global,
 }
 
@@ -59,7 +61,7 @@ impl Model for Store {
 
     ghost view = { λ s. store_of s.pool s.clauses };
 
-    ghost invariant = { λ s. IsInside s.pool s.clauses s.active s.weakened s.noted.items };
+    ghost invariant = { λ s. IsInside s.indexed s.pool s.clauses s.active s.weakened s.noted.items };
 }
 
 impl Store {
@@ -73,6 +75,23 @@ impl Store {
             active: index::Pairs::new(alloc),
             weakened: index::Pairs::new(alloc),
             noted: Vec::new(alloc),
+            indexed: true,
+            alloc,
+        }
+    }
+
+    /// A store with no clause, for callers that name clauses by ids. It keeps no index of literal sets, so each of
+    /// `least_active` and `least_weakened` looks at every clause.
+    pub fn without_index(alloc: Global) -> Store
+        ensures { result ≡ finmap.empty }
+    {
+        Store {
+            pool: Pool::new(alloc),
+            clauses: table::Table::new(alloc),
+            active: index::Pairs::new(alloc),
+            weakened: index::Pairs::new(alloc),
+            noted: Vec::new(alloc),
+            indexed: false,
             alloc,
         }
     }
@@ -90,19 +109,26 @@ impl Store {
         if self.clauses.contains_key(id) {
             return Err(StoreFault::IdTaken);
         }
-        let Ok(set) = LitSet::of(self.alloc, lits) else {
+        let Ok(pooled) = once::put(self.alloc, &mut self.pool, self.indexed, lits) else {
             return Err(StoreFault::Memory);
         };
-        let key = index::key_of(set.as_slice());
-        let Ok(slot) = once::add_once(self.alloc, &mut self.pool, set.len(), lits) else {
-            return Err(StoreFault::Memory);
-        };
+        let once::Pooled { slot, key } = pooled;
         if rows::note(&mut self.noted, slot, id, key).is_err() {
             self.pool.free(slot);
             return Err(StoreFault::Memory);
         }
         let limit = table::dense_limit(self.noted.len());
-        if rows::enter(&mut self.active, &mut self.clauses, id, key, slot, limit).is_err() {
+        if rows::enter(
+            &mut self.active,
+            &mut self.clauses,
+            self.indexed,
+            id,
+            key,
+            slot,
+            limit,
+        )
+        .is_err()
+        {
             self.pool.free(slot);
             return Err(StoreFault::Memory);
         }
@@ -120,8 +146,8 @@ impl Store {
         let Some(slot) = rows::active_slot(&self.clauses, id) else {
             return Err(StoreFault::NotActive);
         };
-        let key = rows::key_at(&self.noted, slot);
-        rows::leave(&mut self.active, &mut self.clauses, id, key);
+        let key = rows::key_at(&self.noted, self.indexed, slot);
+        rows::leave(&mut self.active, &mut self.clauses, self.indexed, id, key);
         self.pool.free(slot);
         Ok(())
     }
@@ -138,11 +164,12 @@ impl Store {
         let Some(slot) = rows::active_slot(&self.clauses, id) else {
             return Err(StoreFault::NotActive);
         };
-        let key = rows::key_at(&self.noted, slot);
+        let key = rows::key_at(&self.noted, self.indexed, slot);
         if rows::switch(
             &mut self.active,
             &mut self.weakened,
             &mut self.clauses,
+            self.indexed,
             id,
             key,
             false,
@@ -182,11 +209,12 @@ impl Store {
         if slot.number() >= end {
             return Err(StoreFault::Memory);
         }
-        let key = rows::key_at(&self.noted, slot);
+        let key = rows::key_at(&self.noted, self.indexed, slot);
         if rows::switch(
             &mut self.weakened,
             &mut self.active,
             &mut self.clauses,
+            self.indexed,
             id,
             key,
             true,
@@ -206,6 +234,9 @@ impl Store {
         ensures least { IfSome result (λ id. (x : ℕ) → IsActiveWith self.now set.now x → id ≤ x) }
         ensures none { IfNone result ((x : ℕ) → IsActiveWith self.now set.now x → ⊥) }
     {
+        if !self.indexed {
+            return rows::least_noted(&self.noted, &self.clauses, &self.pool, true, set);
+        }
         self.active.least(&self.clauses, &self.pool, set)
     }
 
@@ -215,10 +246,14 @@ impl Store {
         ensures least { IfSome result (λ id. (x : ℕ) → IsWeakenedWith self.now set.now x → id ≤ x) }
         ensures none { IfNone result ((x : ℕ) → IsWeakenedWith self.now set.now x → ⊥) }
     {
+        if !self.indexed {
+            return rows::least_noted(&self.noted, &self.clauses, &self.pool, false, set);
+        }
         self.weakened.least(&self.clauses, &self.pool, set)
     }
 
     /// The slot of an active clause; None exactly where the id isn't active.
+    #[inline(always)]
     pub fn find(&self, id: u64) -> Option<Slot>
         ensures slot { result ≡ slot_at self.now id }
         ensures sound { IsStore self.now }

@@ -38,6 +38,7 @@ pub(crate) fn dense_limit(count: usize) -> u64 {
 }
 
 /// The row that a cell has.
+#[inline(always)]
 fn kept_in(cell: &Cell) -> Option<Kept>
     ensures { result ≡ kept_of cell.now }
 {
@@ -63,6 +64,7 @@ fn cell_for(slot: Slot, active: bool) -> Cell
 }
 
 /// What the dense part has at an id.
+#[inline(always)]
 fn dense_at(dense: &Vec<Cell>, id: u64) -> Option<Kept>
     ensures { result ≡ dense_row dense.now.items id }
 {
@@ -103,6 +105,7 @@ fn write(dense: &mut Vec<Cell>, id: u64, cell: Cell) -> bool
 }
 
 /// What the far part has at an id.
+#[inline(always)]
 fn far_at(far: &HashMap<u64, Kept>, id: u64) -> Option<Kept>
     ensures { result ≡ far_row far.now.entries id }
 {
@@ -156,6 +159,7 @@ impl Table {
     }
 
     /// The row of an id.
+    #[inline(always)]
     pub(crate) fn get(&self, id: u64) -> Option<Kept>
         ensures { result ≡ row self.now id }
     {

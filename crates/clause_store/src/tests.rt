@@ -74,6 +74,38 @@ fn copies_are_taken_one_by_one(rt: HostRuntime) -> Result<(), Fail> {
 }
 
 #[test]
+fn stores_with_an_index_and_without_answer_alike(rt: HostRuntime) -> Result<(), Fail> {
+    let set = LitSet::of(rt.alloc(), &[lit(2), lit(-1)])?;
+    let mut one = Store::new(rt.alloc());
+    let mut other = Store::without_index(rt.alloc());
+    for (i, (letter, id, active, weakened)) in [
+        (b'a', 9, Some(9), None),
+        (b'a', 4, Some(4), None),
+        (b'a', 6, Some(4), None),
+        (b'w', 4, Some(6), Some(4)),
+        (b'd', 4, Some(6), Some(4)),
+        (b'w', 9, Some(6), Some(4)),
+        (b'd', 6, None, Some(4)),
+        (b'r', 9, Some(9), Some(4)),
+        (b'a', 4, Some(9), Some(4)),
+    ]
+    .into_iter()
+    .enumerate()
+    {
+        assert_eq!(rt;
+            call(&mut one, letter, id),
+            call(&mut other, letter, id),
+            "at {i}"
+        );
+        assert_eq!(rt; one.least_active(&set), active, "at {i}");
+        assert_eq!(rt; other.least_active(&set), active, "at {i}");
+        assert_eq!(rt; one.least_weakened(&set), weakened, "at {i}");
+        assert_eq!(rt; other.least_weakened(&set), weakened, "at {i}");
+    }
+    Ok(())
+}
+
+#[test]
 fn large_ids_are_ids(rt: HostRuntime) -> Result<(), Fail> {
     let set = LitSet::of(rt.alloc(), &[lit(2), lit(-1)])?;
     let mut store = Store::new(rt.alloc());

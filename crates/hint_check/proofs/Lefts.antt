@@ -1,24 +1,23 @@
 -- What is left of a clause as its literals are met one after another, and marks.
 use Rattle.std.proofs.Common.{◌≡◌, ◌≢◌, ℕ, suc, zero, ◌+◌, ◌*◌, ◌<◌, ◌≤◌, ◌⊎◌, List, [], ◌∷◌, ◌++◌, length, take, drop, filter, get_or, Option, Some, None, refl, sym, ap, ◌∙◌, subst, inl, inr, arith, true, false, Bool, not, nat_eq, ◌||◌, ◌&&◌, Contains, eqb-true, eq-eqb, cond}
 use Rattle.std.proofs.Math.ListN.{set}
-use Rattle.std.specs.Prelude.{is_some, option_map, option_and_then}
+use Rattle.std.specs.Prelude.{option_map}
 use Rattle.std.specs.List.{list_any, list_all}
 use Rattle.std.proofs.lemmas.List.{get_or-set_same, get_or-set_other, length-set}
-use Rattle.std.proofs.lemmas.Option.{same_Some, none-some}
-use Rattle.std.proofs.lemmas.Bool.{cases_Bool, both_ways, and_parts, and_from, false_from_ne_true, eqb-false}
+use Rattle.std.proofs.lemmas.Option.{none-some}
+use Rattle.std.proofs.lemmas.Bool.{cases_Bool, both_ways}
 use Rattle.std.proofs.lemmas.Bool.Decides.{nat_tests}
 use Rattle.std.specs.FinMap.{get}
 use Rattle.lits.specs.Literal.{var, neg}
-use Rattle.lits.specs.Clause.{has, set_of}
+use Rattle.lits.specs.Clause.{has}
 use Rattle.lits.proofs.Ascending.{has-set_of}
-use Rattle.lits.proofs.Members.{here, there, not_in_nil, here_or_there, all_at, all_from, any_from, has_at, has_from, filter_at, filter_from}
-use Rattle.session_rules.specs.Logic as logic
+use Rattle.lits.proofs.Members.{here, there, not_in_nil, here_or_there, all_at, all_from, has_at, has_from, filter_at, filter_from}
 use Rattle.session_rules.specs.declared.Left.{Left}
 use Rattle.session_rules.specs.declared.Left.TheVariants.{Falsified, UnitLiteral, Open}
 use Rattle.session_rules.specs.Logic.{left, left_of, is_tautology, hints_fail, hints_fail_from, after_hint}
-use Rattle.clause_store.specs.Clauses.{Store, Held, Place, slot_at, place_at, lits_at, IsStore}
+use Rattle.clause_store.specs.Clauses.{Store, Held, Place, slot_at, lits_at, IsStore}
 use Rattle.clause_store.proofs.Lists.{has-push}
-use Rattle.hint_check.specs.Hints.{active_at, if_active, met_seen}
+use Rattle.hint_check.specs.Hints.{active_at}
 use Rattle.hint_check.specs.Marks.{IsMarked, IsBelow}
 
 -- ---- Marks

@@ -1,7 +1,7 @@
 -- What a run of the hint rule sees of the store, and how it ends.
-use Rattle.std.specs.Prelude.{◌≡◌, ℕ, ◌<◌, List, length, Option, Some, None, is_some, option_and_then, if◌then◌else◌, Contains}
+use Rattle.std.specs.Prelude.{◌≡◌, ℕ, ◌<◌, List, Option, Some, None, is_some, option_and_then, if◌then◌else◌, Contains}
 use Rattle.std.specs.FinMap as finmap
-use Rattle.lits.specs.Literal.{var, neg}
+use Rattle.lits.specs.Literal.{neg}
 use Rattle.clause_store.specs.Clauses.{Store, Held}
 use Rattle.hint_check.specs.declared.HintEnd.{HintEnd}
 use Rattle.hint_check.specs.declared.HintEnd.TheVariants as ends

@@ -8,11 +8,11 @@ ghost use Rattle.std.specs.Prelude.{◌≡◌, ℕ, ◌+◌, ◌*◌, ◌<◌, �
 ghost use Rattle.lits.specs.Literal.{max_var, var, neg};
 ghost use Rattle.session_rules.specs.Logic as logic;
 ghost use Rattle.std.specs.FinMap as finmap;
-ghost use Rattle.clause_store.specs.Clauses.{Held};
+ghost use Rattle.clause_store.specs.Clauses.{Held, IsSlot, slot_at, lits_at};
 ghost use Rattle.hint_check.specs.Hints.{active_at, end_of, AreWithin, IsLeftOf};
 ghost use Rattle.hint_check.specs.Marks.{IsMarked, IsBelow};
 
-use clause_store::Store;
+use clause_store::{Slot, Store};
 use lits::Lit;
 use session_rules::Left;
 use std::alloc::{AllocError, Global};
@@ -119,6 +119,43 @@ fn rest(marks: &[u32], mark: u32, lits: &[Lit]) -> Left
     }
 }
 
+/// What is left of a clause of two literals.
+fn rest_of_two(marks: &[u32], mark: u32, x: Lit, y: Lit) -> Left
+    requires x { neg x < length marks.now }
+    requires y { neg y < length marks.now }
+    ensures left { (trues : List ℕ) → IsMarked marks.now mark trues → result ≡ logic.left trues (x ∷ y ∷ []) }
+    ensures known { IsLeftOf result (x ∷ y ∷ []) }
+{
+    if is_true(marks, mark, x.neg()) {
+        if is_true(marks, mark, y.neg()) {
+            return Left::Falsified;
+        }
+        return Left::UnitLiteral(y);
+    }
+    if is_true(marks, mark, y.neg()) {
+        return Left::UnitLiteral(x);
+    }
+    if x == y {
+        return Left::UnitLiteral(x);
+    }
+    Left::Open
+}
+
+/// What is left of the clause at a slot. The two literals of a list of two stand beside the list.
+fn rest_at(marks: &[u32], mark: u32, store: &Store, slot: Slot) -> Left
+    requires slot { IsSlot store.now slot }
+    requires within { (id l : ℕ) → slot_at store.now id ≡ Some slot → Contains (lits_at store.now id) l → neg l < length marks.now }
+    ensures left { (id : ℕ) → slot_at store.now id ≡ Some slot → (trues : List ℕ) → IsMarked marks.now mark trues → result ≡ logic.left trues (lits_at store.now id) }
+    ensures known { (id : ℕ) → slot_at store.now id ≡ Some slot → IsLeftOf result (lits_at store.now id) }
+{
+    let lits = store.lits(slot);
+    if lits.len() == 2 {
+        let (x, y) = store.pair(slot);
+        return rest_of_two(marks, mark, x, y);
+    }
+    rest(marks, mark, lits)
+}
+
 /// Takes the hints in order.
 fn follow(marks: &mut [u32], mark: u32, store: &Store, hints: &[u64]) -> HintEnd
     requires within { AreWithin store.now (length marks.old) }
@@ -132,7 +169,7 @@ fn follow(marks: &mut [u32], mark: u32, store: &Store, hints: &[u64]) -> HintEnd
                 position: i as u64 + 1,
             };
         };
-        match rest(marks, mark, store.lits(slot)) {
+        match rest_at(marks, mark, store, slot) {
             Left::Falsified => return HintEnd::Closed,
             Left::Open => {
                 return HintEnd::Fails {

@@ -1,3 +1,4 @@
+// The plans of command lines, and the text and status of each ending.
 use crate::telling::tell;
 use crate::{Command, Ending, Places, places, run};
 use lits::Lit;

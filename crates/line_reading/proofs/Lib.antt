@@ -6,3 +6,4 @@ pub mod FirstLetter
 pub mod ByLetter
 pub mod AtBounds
 pub mod EndDue
+pub mod Fronts

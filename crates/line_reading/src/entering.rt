@@ -8,12 +8,13 @@ ghost use Rattle.slice_tokens.specs.Calls.{Moves};
 ghost use Rattle.line_reading.specs.Whole.{Enters};
 
 use crate::kinds::LetterWords;
-use crate::words::next_word;
+use crate::words::first_word;
 use outside::Source;
 use session_rules::{Letter, LineFault, Rule};
 use slice_tokens::{TokenFault, Window};
 
 /// Goes to the next content line and reads its letter; none at the end of the stream.
+#[inline]
 pub fn enter_line<S: Source>(window: &mut Window, src: &mut S) -> Result<Option<Letter>, LineFault>
     ensures moves { Moves window.old window.new }
     ensures progress { IfOk result (λ letter. IsTrue (is_some letter) → window.old.passed < window.new.passed) }
@@ -24,7 +25,7 @@ pub fn enter_line<S: Source>(window: &mut Window, src: &mut S) -> Result<Option<
     ensures memory { IsErrOf result LineFault.Memory → ⊥ }
 {
     match window.next_line(src) {
-        Ok(true) => match next_word::<S, LetterWords>(window, src) {
+        Ok(true) => match first_word::<S, LetterWords>(window, src) {
             Ok(letter) => Ok(Some(letter)),
             Err(fault) => Err(fault),
         },

@@ -1,11 +1,12 @@
 // The kinds of words of all lines: letters, literals and ids of lists, and statuses.
-ghost use Rattle.std.specs.Prelude.{◌≡◌, codes};
+ghost use Rattle.std.specs.Prelude.{◌≡◌, true, codes};
+ghost use Rattle.slice_tokens.specs.Front.{IsWordFront};
 ghost use Rattle.session_rules.specs.declared.Rule.TheVariants as rules;
 ghost use Rattle.session_rules.specs.Reading as reading;
 ghost use Rattle.line_reading.specs.Kinds.{letter_says, literal_says, id_says, own_id_says, status_says};
 
 use crate::words::WordKind;
-use lits::{IdWord, Lit, LitWord, id_word, literal_word};
+use lits::{IdWord, Lit, LitWord, front_id, front_literal, front_zero, id_word, literal_word};
 use session_rules::{Id, Letter, Rule, StatusWord};
 
 // The letter that a word is.
@@ -26,6 +27,15 @@ fn letter_of(word: &[u8]) -> Letter
     }
 }
 
+// Whether a word of one byte stands at the front of some bytes, and a space behind it.
+#[inline(always)]
+#[tactic(auto, using(crate::proofs::Fronts::single_front))]
+fn is_single(bytes: &[u8]) -> bool
+    ensures { result ≡ true → IsWordFront bytes.now 1 }
+{
+    bytes.len() > 1 && bytes[0] > b' ' && bytes[1] == b' '
+}
+
 /// The letter that begins a line.
 pub struct LetterWords;
 
@@ -43,6 +53,18 @@ impl WordKind for LetterWords {
         match letter_of(word) {
             Letter::NoLetter => Err(Rule::Letter),
             letter => Ok(letter),
+        }
+    }
+
+    #[inline(always)]
+    #[tactic(auto, unfolding(crate::specs::Kinds::letter_says))]
+    fn front(bytes: &[u8]) -> Option<(usize, Letter)> {
+        if !is_single(bytes) {
+            return None;
+        }
+        match letter_of(&bytes[..1]) {
+            Letter::NoLetter => None,
+            letter => Some((1, letter)),
         }
     }
 
@@ -77,6 +99,21 @@ impl WordKind for LiteralWords {
         }
     }
 
+    #[inline(always)]
+    #[tactic(auto, using(crate::proofs::Fronts::literal_zero))]
+    fn front(bytes: &[u8]) -> Option<(usize, Option<Lit>)> {
+        match front_literal(bytes) {
+            Some((count, l)) => Some((count, Some(l))),
+            None => {
+                if front_zero(bytes) {
+                    Some((1, None))
+                } else {
+                    None
+                }
+            }
+        }
+    }
+
     fn missing() -> Rule {
         Rule::Unclosed
     }
@@ -108,6 +145,21 @@ impl WordKind for IdWords {
         }
     }
 
+    #[inline(always)]
+    #[tactic(auto, using(crate::proofs::Fronts::id_zero))]
+    fn front(bytes: &[u8]) -> Option<(usize, Option<Id>)> {
+        match front_id(bytes) {
+            Some((count, id)) => Some((count, Some(id))),
+            None => {
+                if front_zero(bytes) {
+                    Some((1, None))
+                } else {
+                    None
+                }
+            }
+        }
+    }
+
     fn missing() -> Rule {
         Rule::Unclosed
     }
@@ -136,6 +188,15 @@ impl WordKind for OwnIdWords {
             IdWord::Value(id) => Ok(id),
             IdWord::NotNumber => Err(Rule::Number),
             IdWord::OutOfRange => Err(Rule::Range),
+        }
+    }
+
+    #[inline(always)]
+    #[tactic(auto, using(crate::proofs::Fronts::own_id_front))]
+    fn front(bytes: &[u8]) -> Option<(usize, Id)> {
+        match front_id(bytes) {
+            Some((count, id)) => Some((count, id)),
+            None => None,
         }
     }
 
@@ -179,6 +240,10 @@ impl WordKind for StatusWords {
         } else {
             Err(Rule::Word)
         }
+    }
+
+    fn front(bytes: &[u8]) -> Option<(usize, StatusWord)> {
+        None
     }
 
     fn missing() -> Rule {

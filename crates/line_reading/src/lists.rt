@@ -92,6 +92,7 @@ pub fn read_ids<S: Source>(
 }
 
 /// The line's own id, which isn't 0.
+#[inline(always)]
 pub fn read_id<S: Source>(window: &mut Window, src: &mut S) -> Result<Id, LineFault>
     ensures stays { Stays window.old window.new }
     ensures told { WhereTold (ahead window.old (S.left src.old)) (ahead window.new (S.left src.new))

@@ -1,3 +1,4 @@
+// Lines that are read by their letter, and one whose word is no number.
 use crate::{enter_line, literals_ids_rest, literals_rest, status_rest};
 use outside::MemorySource;
 use session_rules::{Letter, LineFault, Rule, StatusWord};

@@ -1,10 +1,11 @@
 // The kinds of words that stand in lines, and the reading of the next word as one of a kind.
-ghost use Rattle.std.specs.Prelude.{◌≡◌, ℕ, ◌<◌, ◌≤◌, List, IfOk, IsErrOf};
+ghost use Rattle.std.specs.Prelude.{◌≡◌, ℕ, ◌<◌, ◌≤◌, List, take, Ok, IfOk, IfSome, IsErrOf};
 ghost use Rattle.std.specs.declared.result.Result.{Result};
 ghost use Rattle.outside.specs.Faults.{Rose};
 ghost use Rattle.session_rules.specs.declared.Rule.{Rule};
 ghost use Rattle.session_rules.specs.declared.LineFault.{LineFault};
 ghost use Rattle.slice_tokens.specs.Place.{ahead, WhereTold};
+ghost use Rattle.slice_tokens.specs.Front.{IsWordFront};
 ghost use Rattle.line_reading.specs.Parts.{ReadsPart, EndsLine, Stays, word_part, line_fault_of};
 
 use outside::Source;
@@ -27,6 +28,10 @@ pub trait WordKind {
     fn read(word: &[u8]) -> Result<Self::Value, Rule>
         ensures { result ≡ says word.now };
 
+    /// What the word at the front of some bytes says, and how many bytes it has, where a look at these bytes tells.
+    fn front(bytes: &[u8]) -> Option<(usize, Self::Value)>
+        ensures { IfSome result (λ r. IsWordFront bytes.now r.0 × (says (take r.0 bytes.now) ≡ Ok r.1)) };
+
     fn missing() -> Rule
         ensures { result ≡ missing };
 
@@ -46,7 +51,55 @@ pub(crate) fn line_fault(fault: TokenFault, long: Rule) -> LineFault
 }
 
 /// The next word of the line, as one of the kind. A word that is too long is not taken off the line.
+#[inline(always)]
 pub fn next_word<S: Source, K: WordKind>(
+    window: &mut Window,
+    src: &mut S,
+) -> Result<K::Value, LineFault>
+    ensures stays { Stays window.old window.new }
+    ensures progress { IfOk result (λ _. window.old.passed < window.new.passed) }
+    ensures told { WhereTold (ahead window.old (S.left src.old)) (ahead window.new (S.left src.new))
+        (λ bytes rest. ReadsPart (word_part K.says K.missing K.long) result window.old bytes window.new rest) }
+    ensures count { S.faults src.old ≤ S.faults src.new }
+    ensures read { IsErrOf result LineFault.Read → Rose (S.faults src.old) (S.faults src.new) }
+    ensures memory { IsErrOf result LineFault.Memory → ⊥ }
+{
+    match K::front(window.behind_space()) {
+        Some((count, value)) => {
+            window.take_word(count);
+            Ok(value)
+        }
+        None => whole_word::<S, K>(window, src),
+    }
+}
+
+// The same for a word that no space stands before.
+#[inline(always)]
+#[inline(always)]
+pub(crate) fn first_word<S: Source, K: WordKind>(
+    window: &mut Window,
+    src: &mut S,
+) -> Result<K::Value, LineFault>
+    ensures stays { Stays window.old window.new }
+    ensures progress { IfOk result (λ _. window.old.passed < window.new.passed) }
+    ensures told { WhereTold (ahead window.old (S.left src.old)) (ahead window.new (S.left src.new))
+        (λ bytes rest. ReadsPart (word_part K.says K.missing K.long) result window.old bytes window.new rest) }
+    ensures count { S.faults src.old ≤ S.faults src.new }
+    ensures read { IsErrOf result LineFault.Read → Rose (S.faults src.old) (S.faults src.new) }
+    ensures memory { IsErrOf result LineFault.Memory → ⊥ }
+{
+    match K::front(window.coming()) {
+        Some((count, value)) => {
+            window.take_first(count);
+            Ok(value)
+        }
+        None => whole_word::<S, K>(window, src),
+    }
+}
+
+// The next word of the line, as one of the kind, read as a word first.
+#[inline(never)]
+fn whole_word<S: Source, K: WordKind>(
     window: &mut Window,
     src: &mut S,
 ) -> Result<K::Value, LineFault>
@@ -69,7 +122,24 @@ pub fn next_word<S: Source, K: WordKind>(
 }
 
 /// The line's end; any further word, however long, breaks Excess.
+#[inline(always)]
 pub fn end_line<S: Source>(window: &mut Window, src: &mut S) -> Result<(), LineFault>
+    ensures stays { Stays window.old window.new }
+    ensures told { WhereTold (ahead window.old (S.left src.old)) (ahead window.new (S.left src.new))
+        (λ bytes rest. EndsLine result window.old bytes window.new rest) }
+    ensures count { S.faults src.old ≤ S.faults src.new }
+    ensures read { IsErrOf result LineFault.Read → Rose (S.faults src.old) (S.faults src.new) }
+    ensures memory { IsErrOf result LineFault.Memory → ⊥ }
+{
+    if window.is_at_line_feed() {
+        return Ok(());
+    }
+    later_end(window, src)
+}
+
+// The line's end, where it isn't at the next byte.
+#[inline(never)]
+fn later_end<S: Source>(window: &mut Window, src: &mut S) -> Result<(), LineFault>
     ensures stays { Stays window.old window.new }
     ensures told { WhereTold (ahead window.old (S.left src.old)) (ahead window.new (S.left src.new))
         (λ bytes rest. EndsLine result window.old bytes window.new rest) }

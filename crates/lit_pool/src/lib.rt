@@ -112,6 +112,7 @@ impl Pool {
 
     /// Adds an entry of these literals, in their order, with no links, at a slot that wasn't live. Where memory is
     /// wanting the pool stays as it was.
+    #[inline(always)]
     pub fn add(&mut self, lits: &[Lit]) -> Result<Slot, AllocError>
         ensures fresh { IfOk result (λ s. map.get self.old s ≡ None) }
         ensures ok { IfOk result (λ s. self.new ≡ map.insert self.old s (new_entry lits.now)) }
@@ -184,6 +185,7 @@ impl Pool {
     }
 
     /// Puts an entry into the row that was freed last among those of this size. There may be none.
+    #[inline(always)]
     fn reuse(&mut self, size: usize, lits: &[Lit]) -> Option<Slot>
         ensures fresh { IfSome result (λ s. map.get self.old s ≡ None) }
         ensures some { IfSome result (λ s. self.new ≡ map.insert self.old s (new_entry lits.now)) }
@@ -208,6 +210,7 @@ impl Pool {
     }
 
     /// Puts an entry into a row after the others, in a block for `room` literals.
+    #[inline(always)]
     fn push(&mut self, room: usize, lits: &[Lit]) -> Result<Slot, AllocError>
         requires { length lits.now ≤ room }
         ensures fresh { IfOk result (λ s. map.get self.old s ≡ None) }

@@ -1,3 +1,4 @@
+// Entries that are added, changed and freed, and random calls held against a plain list.
 use super::*;
 use crate::plain::Plain;
 use std::test::Fail;

@@ -20,7 +20,7 @@ own = numerals_by_value _ digits_test
 pub digit_range : (c : ℕ) → is_ascii_digit c ≡ true → (48 ≤ c) × (c ≤ 57)
 digit_range c h = let parts = and_parts _ _ h in (leb-true _ _ parts.0, leb-true _ _ parts.1)
 
-digit_is : (c : ℕ) → 48 ≤ c → c ≤ 57 → digit_value c ≡ c - 48
+pub digit_is : (c : ℕ) → 48 ≤ c → c ≤ 57 → digit_value c ≡ c - 48
 digit_is c low high = let a : nat_lt c 48 ≡ false = le-ltb c 48 low in let b : nat_lt c 58 ≡ true = lt-ltb c 58 (omega arith) in rw (a, b) refl
 
 -- one more digit, up to a cap

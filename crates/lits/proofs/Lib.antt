@@ -7,3 +7,4 @@ pub mod Words
 pub mod Digits
 pub mod Back
 pub mod WordKinds
+pub mod Front

@@ -70,7 +70,7 @@ literal_word-literal_text l small = elim (cases_Bool (positive l)) [
       rw q (negative_word (decimal (var l)) (var l) (IsWord-decimal (var l) (omega arith) (omega arith)) (omega arith) ∙ ap words.Value same)
 ]
 
-id_numeral : (ds : List ℕ) (n : ℕ) → IsWord ds n → n < 2 ^ 63 → id_word ds ≡ ids.Value n
+pub id_numeral : (ds : List ℕ) (n : ℕ) → IsWord ds n → n < 2 ^ 63 → id_word ds ≡ ids.Value n
 unfolding id_word numeral
 id_numeral [] n w small = absurd (omega (arith, w.nonempty))
 id_numeral (d ∷ ds) n w small =

@@ -1,5 +1,5 @@
 -- What a word of a line is, where a literal, an id or the 0 at a list's end stands.
-use Rattle.std.specs.Prelude.{ℕ, ◌^◌, ◌≤◌, Bool, ◌&&◌, nat_eq, nat_lt, nat_le, if◌then◌else◌, List, [], ◌∷◌, All, length, slice_index, drop, Option, Some, None, decimal}
+use Rattle.std.specs.Prelude.{◌≡◌, ℕ, ◌^◌, ◌<◌, ◌≤◌, Bool, true, ◌&&◌, ◌||◌, nat_eq, nat_lt, nat_le, if◌then◌else◌, List, [], ◌∷◌, All, length, slice_index, take, drop, Option, Some, None, decimal}
 use Rattle.std.specs.List.{list_all}
 use Rattle.std.specs.Char.{is_ascii_digit}
 use Rattle.std.specs.Str.Parse.{digits_value}
@@ -64,3 +64,31 @@ id_of (Some v) = if nat_lt v (2 ^ 63) then ids.Value v else ids.OutOfRange
 -- what a word says as an id
 unfoldable pub id_word : List ℕ → IdWord
 id_word w = if is_zero w then ids.Zero else id_of (if is_short w then numeral w else None)
+
+-- ---- A word at the front of some bytes
+
+-- a byte of the words of numbers
+abbrev pub is_number_byte : ℕ → Bool
+is_number_byte b = is_ascii_digit b || nat_eq b 45
+
+-- a space, or the byte that ends a line
+abbrev pub is_end_byte : ℕ → Bool
+is_end_byte b = nat_eq b 32 || nat_eq b 10
+
+-- the first n of some bytes are bytes of a number's word, and a space or a line's end stands behind them
+pub record IsFront (bytes : List ℕ) (n : ℕ) : Type 0 where
+  pub some : 0 < n
+  pub short : n ≤ 32
+  pub within : n < length bytes
+  pub word : list_all is_number_byte (take n bytes) ≡ true
+  pub behind : is_end_byte (slice_index bytes n) ≡ true
+
+-- the first n of some bytes are digits of which the first isn't 0, they write the number v, and a space or a line's end stands behind them
+pub record IsNumeralFront (bytes : List ℕ) (n v : ℕ) : Type 0 where
+  pub some : 0 < n
+  pub few : n ≤ 18
+  pub within : n < length bytes
+  pub first : 48 < slice_index bytes 0
+  pub digits : list_all is_ascii_digit (take n bytes) ≡ true
+  pub value : v ≡ digits_value 10 (take n bytes)
+  pub behind : is_end_byte (slice_index bytes n) ≡ true

@@ -20,7 +20,7 @@ pub use crate::laws::{
     sets_are_their_members, sorted_sets_are_unique, tests_depend_on_sets, words_are_ids,
     words_are_literals,
 };
-pub use crate::reading::{id_word, literal_word};
+pub use crate::reading::{front_id, front_literal, front_zero, id_word, literal_word};
 pub use crate::set::LitSet;
 use std::alloc::{AllocError, Global};
 use std::marker::Model;

@@ -1,14 +1,23 @@
 // Words read as literals and ids, in one pass over their bytes. A numeral's value is gathered digit by digit, and one of
 // more than 19 digits, which is beyond every limit, counts as the least number of 20 digits.
 
-ghost use Rattle.std.specs.Prelude.{◌≡◌, ◌+◌, ◌*◌, ◌<◌, min, nat_lt, slice_index, Some};
+ghost use Rattle.std.specs.Prelude.{◌≡◌, ◌≢◌, ℕ, ◌+◌, ◌*◌, ◌<◌, ◌≤◌, true, false, ◌&&◌, min, nat_lt, length, take, slice_index, Some, IfSome, IfNone};
+ghost use Rattle.std.specs.Bool.{OnTrue};
+ghost use Rattle.std.specs.Char.{is_ascii_digit};
+ghost use Rattle.std.specs.List.{list_all};
 ghost use Rattle.std.specs.Option.{option_map};
+ghost use Rattle.std.specs.Str.Parse.{digits_value};
 ghost use Rattle.lits.specs.Word as spec;
+ghost use Rattle.lits.specs.declared.LitWord.TheVariants as words;
+ghost use Rattle.lits.specs.declared.IdWord.TheVariants as ids;
 
 use crate::{IdWord, Lit, LitWord, MAX_VAR};
 
 /// The greatest number of bytes in the word of a number.
 const MAX_LEN: usize = 32;
+
+/// How many digits are read at the front of some bytes at most: their number is far below 2^63.
+const MOST_DIGITS: usize = 18;
 
 /// The greatest id.
 const MAX_ID: u64 = 9_223_372_036_854_775_807;
@@ -46,6 +55,91 @@ pub fn id_word(word: &[u8]) -> IdWord
         Some(id) if id > MAX_ID => IdWord::OutOfRange,
         Some(id) => IdWord::Value(id),
     }
+}
+
+/// The literal whose word stands at the front of some bytes, and how many bytes the word has. None exactly where there is
+/// none with a space or a line's end behind it.
+#[inline(always)]
+pub fn front_literal(bytes: &[u8]) -> Option<(usize, Lit)>
+    ensures some { IfSome result (λ r. spec.IsFront bytes.now r.0 × (spec.literal_word (take r.0 bytes.now) ≡ words.Value r.1)) }
+    ensures none { IfNone result ((n l : ℕ) → spec.IsFront bytes.now n → spec.literal_word (take n bytes.now) ≡ words.Value l → ⊥) }
+{
+    let minus = starts_with_minus(bytes);
+    let from = if minus { 1 } else { 0 };
+    match front_numeral(&bytes[from..]) {
+        None => None,
+        Some((count, size)) => match literal_of(minus, size) {
+            LitWord::Value(l) => Some((from + count, l)),
+            LitWord::Zero => None,
+            LitWord::NotNumber => None,
+            LitWord::OutOfRange => None,
+        },
+    }
+}
+
+/// The id of at most 18 digits whose word stands at the front of some bytes, and how many bytes the word has. None exactly
+/// where there is none with a space or a line's end behind it.
+#[inline(always)]
+pub fn front_id(bytes: &[u8]) -> Option<(usize, u64)>
+    ensures some { IfSome result (λ r. spec.IsFront bytes.now r.0 × (spec.id_word (take r.0 bytes.now) ≡ ids.Value r.1)) }
+    ensures none { IfNone result ((n id : ℕ) → n ≤ 18 → spec.IsFront bytes.now n → spec.id_word (take n bytes.now) ≡ ids.Value id → ⊥) }
+{
+    match front_numeral(bytes) {
+        None => None,
+        Some((count, id)) => Some((count, id)),
+    }
+}
+
+/// Whether the word `0` stands at the front of some bytes, and a space or a line's end behind it.
+#[inline(always)]
+pub fn front_zero(bytes: &[u8]) -> bool
+    ensures yes { OnTrue result (spec.IsFront bytes.now 1 × (spec.literal_word (take 1 bytes.now) ≡ words.Zero) × (spec.id_word (take 1 bytes.now) ≡ ids.Zero)) }
+    ensures no { result ≡ false → spec.IsFront bytes.now 1 → slice_index bytes.now 0 ≢ 48 }
+{
+    ends_at(bytes, 1) && bytes[0] == b'0'
+}
+
+/// The number that the digits at the front of some bytes write, and how many digits they are.
+#[inline(always)]
+fn front_numeral(bytes: &[u8]) -> Option<(usize, u64)>
+    ensures some { IfSome result (λ r. spec.IsNumeralFront bytes.now r.0 r.1) }
+    ensures none { IfNone result ((n v : ℕ) → spec.IsNumeralFront bytes.now n v → ⊥) }
+{
+    if !starts_above_zero(bytes) {
+        return None;
+    }
+    let (count, value) = front_digits(bytes);
+    if ends_at(bytes, count) {
+        Some((count, value))
+    } else {
+        None
+    }
+}
+
+/// The first digits of some bytes, up to `MOST_DIGITS`: how many they are, and the number that they write.
+#[inline(always)]
+fn front_digits(bytes: &[u8]) -> (usize, u64)
+    ensures few { result.0 ≤ 18 }
+    ensures digits { list_all is_ascii_digit (take result.0 bytes.now) ≡ true }
+    ensures value { result.1 ≡ digits_value 10 (take result.0 bytes.now) }
+    ensures longest { (k : ℕ) → k ≤ 18 → k ≤ length bytes.now → list_all is_ascii_digit (take k bytes.now) ≡ true → k ≤ result.0 }
+{
+    let most = bytes.len().min(MOST_DIGITS);
+    let mut count = 0;
+    let mut value = 0;
+    'digits: while count < most && bytes[count].is_ascii_digit() {
+        value = value * 10 + (bytes[count] - b'0') as u64;
+        count += 1;
+    }
+    (count, value)
+}
+
+/// Whether a space or a line's end stands at a place of some bytes.
+#[inline(always)]
+fn ends_at(bytes: &[u8], at: usize) -> bool
+    ensures { result ≡ (nat_lt at (length bytes.now) && spec.is_end_byte (slice_index bytes.now at)) }
+{
+    at < bytes.len() && (bytes[at] == b' ' || bytes[at] == b'\n')
 }
 
 /// Whether a word is `0`.
@@ -113,6 +207,7 @@ fn with_digit(value: u64, digit: u8) -> u64
 }
 
 /// The literal of a sign and an absolute value that isn't 0.
+#[inline(always)]
 fn literal_of(minus: bool, size: u64) -> LitWord
     ensures { result ≡ spec.literal_of minus (Some size) }
 {

@@ -1,3 +1,4 @@
+// Real files, and sources and sinks in memory that fail at the listed calls.
 use crate::{
     Failed, FileSink, FileSource, MemorySink, MemorySource, Sink, Source, StdoutSink, put,
 };

@@ -261,7 +261,7 @@ impl LidrupSide {
     {
         let parts = Parts {
             events: Events::new(alloc),
-            store: Store::new(alloc),
+            store: Store::without_index(alloc),
             hints: HintCheck::new(alloc),
             negations: Vec::new(alloc),
         };

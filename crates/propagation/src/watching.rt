@@ -7,10 +7,10 @@ ghost use Rattle.std.specs.List.{filter};
 ghost use Rattle.lits.specs.Literal.{neg};
 ghost use Rattle.session_rules.specs.Logic.{has};
 ghost use Rattle.clause_store.specs.Clauses.{slot_at, lits_at, IsSlot};
-ghost use Rattle.watch_chains.specs.Chains.{chain_at, IsWatched};
+ghost use Rattle.watch_chains.specs.Chains.{chain_at, IsWatched, AreWatches};
 ghost use Rattle.propagation.specs.Clauses.{clauses_of};
-ghost use Rattle.propagation.specs.Engine.{literals, IsEngine, IsFalseAt};
-ghost use Rattle.propagation.specs.Watching.{engine_of, IsNextFree, IsSecond, IsFirst, IsPair, IsMoved, IsLeftOut, IsSatisfied, IsSettled, IsReady, IsDone, Rests, Advances};
+ghost use Rattle.propagation.specs.Engine.{literals, IsEngine, IsFalseAt, IsReason};
+ghost use Rattle.propagation.specs.Watching.{engine_of, IsNextFree, IsSecond, IsFirst, IsPair, IsMoved, IsLeftOut, HasTwo, IsSettled, IsReady, IsDone, Rests, Advances};
 
 use crate::Pending;
 use crate::assignment::Assignment;
@@ -119,19 +119,43 @@ fn visit(watches: &mut Watches, trail: &mut Assignment, slot: Slot) -> bool
     }
 }
 
-/// Whether the other literal that a clause watches which is in a literal's chain is true.
-fn is_satisfied(watches: &Watches, trail: &Assignment, slot: Slot, w: Lit) -> bool
-    requires { IsTrue (has (chain_at watches.now.chains w) slot) }
-    ensures yes { IsTrue result → (id : ℕ) → slot_at watches.now.clauses id ≡ Some slot → IsSatisfied (literals trail.now.steps) (lits_at watches.now.clauses id) }
-    ensures sound { IsWatched watches.now }
+/// Which of the first two places the other literal stands at that a clause watches.
+fn place_of(lits: &[Lit], w: Lit, other: Lit) -> usize
+    requires { AreWatches lits.now w other }
+    ensures within { result ≤ 1 }
+    ensures is { slice_index lits.now result ≡ other }
 {
-    trail.is_true(watches.other(slot, w))
+    if lits[0] == other { 0 } else { 1 }
 }
 
-/// Visits a clause that is in a literal's chain, unless the other literal that it watches is true. Whether the clause is
-/// false.
+/// Looks beyond the first two literals of a clause for one that isn't false, and watches it in place of the false one of
+/// the two; the other isn't false. Whether there is one.
+fn watch_another(watches: &mut Watches, trail: &Assignment, slot: Slot, w: Lit, other: Lit) -> bool
+    requires watched { (id : ℕ) → slot_at watches.old.clauses id ≡ Some slot → AreWatches (lits_at watches.old.clauses id) w other }
+    requires slot { IsSlot watches.old.clauses slot }
+    requires falsified { IsTrue (has (literals trail.now.steps) (neg w)) }
+    requires free { has (literals trail.now.steps) (neg other) ≡ false }
+    ensures moved { IsMoved (literals trail.now.steps) watches.old.clauses watches.new.clauses }
+    ensures wide { length watches.new.chains ≡ length watches.old.chains }
+    ensures chains { (w : ℕ) → IsTrue (has (literals trail.now.steps) (neg w)) → IsLeftOut slot (chain_at watches.old.chains w) (chain_at watches.new.chains w) }
+    ensures yes { IsTrue result → (id : ℕ) → slot_at watches.new.clauses id ≡ Some slot → HasTwo (literals trail.now.steps) (lits_at watches.new.clauses id) }
+    ensures no { result ≡ false → IsReason (clauses_of watches.old.clauses) (literals trail.now.steps) other slot }
+    ensures sound { IsWatched watches.new }
+{
+    let lits = watches.lits(slot);
+    let Some(k) = next_not_false(trail, lits, 2) else {
+        return false;
+    };
+    let i = place_of(lits, w, other);
+    put_both(watches, slot, i, k);
+    true
+}
+
+/// Visits a clause that is in a false literal's chain, unless the other literal that it watches is true. Whether the clause
+/// is false.
 fn visit_watching(watches: &mut Watches, trail: &mut Assignment, slot: Slot, w: Lit) -> bool
     requires watched { IsTrue (has (chain_at watches.old.chains w) slot) }
+    requires falsified { IsTrue (has (literals trail.old.steps) (neg w)) }
     requires engine { IsEngine (engine_of watches.old.clauses trail.old.steps trail.old.vars) }
     ensures steps { Advances watches.old watches.new trail.old trail.new }
     ensures chains { (w : ℕ) → IsTrue (has (literals trail.old.steps) (neg w)) → IsLeftOut slot (chain_at watches.old.chains w) (chain_at watches.new.chains w) }
@@ -139,10 +163,17 @@ fn visit_watching(watches: &mut Watches, trail: &mut Assignment, slot: Slot, w: 
     ensures no { result ≡ false → (id : ℕ) → slot_at watches.new.clauses id ≡ Some slot → IsDone (literals trail.old.steps) (literals trail.new.steps) (lits_at watches.new.clauses id) }
     ensures sound { IsWatched watches.new }
 {
-    if is_satisfied(watches, trail, slot, w) {
+    let other = watches.other(slot, w);
+    if trail.is_true(other) {
         return false;
     }
-    visit(watches, trail, slot)
+    if trail.is_false(other) {
+        return visit(watches, trail, slot);
+    }
+    if !watch_another(watches, trail, slot, w, other) {
+        trail.put(other, Some(slot));
+    }
+    false
 }
 
 /// Looks at the clause of an id, if it is active. Some is its slot where it is false.

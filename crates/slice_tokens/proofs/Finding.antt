@@ -153,7 +153,7 @@ pub finds_ok : (q : Place) (u : List ℕ) (n : ℕ) → q.standing ≡ Content �
 finds_ok q u zero f short s = due_zero q u f s
 finds_ok q u (suc n) f short s = due_some q u (suc n) f (omega arith) short s
 
-word_bounds : (p : Place) → p.passed ≤ most_bytes → blanks p + word_len p ≤ length (readable p) → (word_len p ≤ length (drop (blanks p) p.held)) × (p.passed + blanks p + word_len p ≤ most_bytes)
+pub word_bounds : (p : Place) → p.passed ≤ most_bytes → blanks p + word_len p ≤ length (readable p) → (word_len p ≤ length (drop (blanks p) p.held)) × (p.passed + blanks p + word_len p ≤ most_bytes)
 word_bounds p h inside =
     let l = length-take (room p) p.held in
     let d = length-drop (blanks p) p.held in

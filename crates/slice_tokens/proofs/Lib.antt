@@ -10,3 +10,4 @@ pub mod Skipping
 pub mod Ending
 pub mod LineEnd
 pub mod Examples
+pub mod Front

@@ -64,9 +64,10 @@ pub record EndHeld (p : Place) : Type 0 where
   pub word : word_len p ≡ 0
   pub none : length (readable p) ≡ 0 → p.ended ≡ true
 
-no_blank : (r : List ℕ) → begins_line_feed r ≡ true → (prefix_len is_blank r ≡ 0) × (prefix_len is_word_byte (drop (prefix_len is_blank r) r) ≡ 0) × (0 < length r)
-no_blank [] h = absurd (false≢true h)
-no_blank (y ∷ r) h =
+-- a line feed has no blank and no word before it
+pub no_word : (r : List ℕ) → begins_line_feed r ≡ true → (prefix_len is_blank r ≡ 0) × (prefix_len is_word_byte (drop (prefix_len is_blank r) r) ≡ 0) × (0 < length r)
+no_word [] h = absurd (false≢true h)
+no_word (y ∷ r) h =
     let feed : y ≡ 10 = eqb-true y 10 h in
     (ap (λ k. prefix_len is_blank (k ∷ r)) feed, ap (λ k. prefix_len is_word_byte (drop (prefix_len is_blank (k ∷ r)) (k ∷ r))) feed, omega arith)
 
@@ -83,7 +84,7 @@ end_held p e h = by_held p.held refl
         }
     by_held (x ∷ l) f =
         let begins : begins_line_feed (readable p) ≡ true = sym (ap (λ l. if is_nil l then p.ended else begins_line_feed (readable p)) f) ∙ sym (at_end_is p e) ∙ h in
-        let n = no_blank (readable p) begins in
+        let n = no_word (readable p) begins in
         record { blanks = n.0; word = n.1; none = λ z. absurd (omega (arith, n.2)) }
 
 -- nothing is passed over where nothing is there to pass

@@ -2,3 +2,4 @@ pub mod Place
 pub mod Due
 pub mod Calls
 pub mod Held
+pub mod Front

@@ -1,3 +1,4 @@
+// Lines and words in pieces of all sizes, across the end of the buffer, and over reads that fail.
 ghost use Rattle.std.specs.Prelude.{◌<◌, None};
 ghost use Rattle.std.specs.Io.{ReadsAtMost};
 ghost use Rattle.std.specs.Io.KnownBytes.{ReadConsumes};

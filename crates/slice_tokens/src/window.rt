@@ -11,15 +11,15 @@ ghost use Rattle.std.specs.Borrow.{sem};
 ghost use Rattle.outside.specs.Faults.{Rose, HasCause};
 ghost use Rattle.session_rules.specs.Lines.{lines, end_line, most_bytes};
 ghost use Rattle.slice_tokens.specs.Place.{at_start, ahead, room, bare_line, present, later, is_cut, last_line, WhereTold};
-ghost use Rattle.slice_tokens.specs.Due.{due};
+ghost use Rattle.slice_tokens.specs.Due.{due, due_end};
 ghost use Rattle.slice_tokens.specs.Calls.{Moves, Answers, IsLineEnd, Leaves, Halts, Reaches, at_line_end, stands_in_content};
+ghost use Rattle.slice_tokens.specs.Front.{behind_space, coming, at_line_feed, IsWordFront, TakesWord};
 ghost use Rattle.slice_tokens.specs.Held.{readable, blanks, passed_over, past_line, standing_at, Stays, Grows, Looks, Finds, Takes, Same, Next, Skips, Enters};
 ghost use Rattle.slice_tokens.specs.contracts.window.Window.{the_row};
 
-use crate::bytes::{blank_count, word_count};
+use crate::bytes::{blank_count, find_line_feed, word_count};
 use crate::filling::read_more;
 use crate::{Token, TokenFault};
-use memchr::memchr;
 use outside::{Failed, Source};
 use std::alloc::{AllocError, Global};
 use std::boxed::BoxedSlice;
@@ -121,6 +121,7 @@ impl Window {
     /// `Read` where the source failed, `LongWord` where the next word has more than 32 bytes, `Length` where 2^62 bytes
     /// are used up before the word's end and there is a further one. The window then stands before the word, and the
     /// call may be made again.
+    #[inline(always)]
     pub fn next<S: Source>(&mut self, src: &mut S) -> Result<Token<'_>, TokenFault>
         ensures answer { IfSome (ahead self.old (S.left src.old)) (λ bytes. Answers (due (present self.old bytes)) result) }
         ensures again { at_line_end self.old ≡ true → IsLineEnd result × (src.new ≡ src.old) }
@@ -138,6 +139,75 @@ impl Window {
             return Ok(Token::LineEnd);
         }
         Ok(Token::Word(self.take(count)))
+    }
+
+    /// The bytes behind one space that it holds and may read. There are none where it isn't in a content line, or another
+    /// byte than a space comes next.
+    #[inline(always)]
+    pub fn behind_space(&self) -> &[u8]
+        ensures { result.now ≡ behind_space self.now }
+    {
+        let readable = self.readable();
+        if self.is_in_content() && !readable.is_empty() && readable[0] == b' ' {
+            &readable[1..]
+        } else {
+            &readable[..0]
+        }
+    }
+
+    /// Takes the space and the word behind it, which has so many bytes.
+    #[inline(always)]
+    pub fn take_word(&mut self, count: usize)
+        requires { IsWordFront (behind_space self.old) count }
+        ensures moves { Moves self.old self.new }
+        ensures line { self.new.line ≡ self.old.line }
+        ensures standing { self.new.standing ≡ self.old.standing }
+        ensures passed { self.old.passed + count < self.new.passed }
+        ensures told { (left : Option (List ℕ)) → WhereTold (ahead self.old left) (ahead self.new left)
+            (λ bytes rest. TakesWord (take count (behind_space self.old)) self.old bytes self.new rest) }
+    {
+        let _ = &self.buf;
+        self.pass(count + 1);
+    }
+
+    /// The bytes that it holds and may read, where it is in a content line; else none.
+    #[inline(always)]
+    pub fn coming(&self) -> &[u8]
+        ensures { result.now ≡ coming self.now }
+    {
+        let readable = self.readable();
+        if self.is_in_content() {
+            readable
+        } else {
+            &readable[..0]
+        }
+    }
+
+    /// Takes the word at the front of these bytes, which has so many bytes.
+    #[inline(always)]
+    pub fn take_first(&mut self, count: usize)
+        requires { IsWordFront (coming self.old) count }
+        ensures moves { Moves self.old self.new }
+        ensures line { self.new.line ≡ self.old.line }
+        ensures standing { self.new.standing ≡ self.old.standing }
+        ensures passed { self.old.passed + count ≤ self.new.passed }
+        ensures told { (left : Option (List ℕ)) → WhereTold (ahead self.old left) (ahead self.new left)
+            (λ bytes rest. TakesWord (take count (coming self.old)) self.old bytes self.new rest) }
+    {
+        let _ = &self.buf;
+        self.pass(count);
+    }
+
+    /// Whether a line feed comes next in a content line, among the bytes that it holds and may read. Then the line's end
+    /// is due.
+    #[inline(always)]
+    pub fn is_at_line_feed(&self) -> bool
+        ensures value { result ≡ at_line_feed self.now }
+        ensures sound { Moves self.now self.now }
+        ensures end { OnTrue result ((left : Option (List ℕ)) → IfSome (ahead self.now left) (λ bytes. due (present self.now bytes) ≡ due_end)) }
+    {
+        let _ = &self.buf;
+        self.sees_line_feed()
     }
 
     /// Passes over the rest of the line and over all lines without content. True where it stands before the first word
@@ -177,12 +247,14 @@ impl Window {
 // The steps that the two calls are made of. Where one begins with `let _ = &self.buf;`, its proof so gets to know what
 // holds of every window.
 impl Window {
+    #[inline(always)]
     fn is_in_content(&self) -> bool
         ensures { result ≡ stands_in_content self.now.standing }
     {
         self.standing == Standing::Content
     }
 
+    #[inline(always)]
     fn is_at_start(&self) -> bool
         ensures { result ≡ standing_at Standing.Start self.now }
     {
@@ -190,6 +262,7 @@ impl Window {
     }
 
     // How many bytes it holds.
+    #[inline(always)]
     fn held(&self) -> usize
         ensures { result ≡ length self.now.held }
     {
@@ -197,6 +270,7 @@ impl Window {
     }
 
     // Whether it has met the end of the stream.
+    #[inline(always)]
     fn has_ended(&self) -> bool
         ensures { result ≡ self.now.ended }
     {
@@ -204,6 +278,7 @@ impl Window {
     }
 
     // The bytes that it holds, up to the bound.
+    #[inline(always)]
     fn readable(&self) -> &[u8]
         ensures value { result.now ≡ readable self.now }
         ensures len { length result.now ≡ min (room self.now) (length self.now.held) }
@@ -219,12 +294,21 @@ impl Window {
         &self.buf[self.start..self.start + count]
     }
 
+    #[inline(always)]
+    fn sees_line_feed(&self) -> bool
+        ensures { result ≡ at_line_feed self.now }
+    {
+        let readable = self.readable();
+        self.is_in_content() && !readable.is_empty() && readable[0] == b'\n'
+    }
+
     fn stand(&mut self, standing: Standing)
         ensures { self.new ≡ record self.old { standing = standing } }
     {
         self.standing = standing;
     }
 
+    #[inline(always)]
     fn pass(&mut self, count: usize)
         requires here { count ≤ length self.old.held }
         requires bound { self.old.passed + count ≤ most_bytes }
@@ -235,6 +319,7 @@ impl Window {
     }
 
     // Passes over some bytes, the last of which ends the line.
+    #[inline(always)]
     fn pass_line(&mut self, count: usize)
         requires some { 0 < count }
         requires here { count ≤ length self.old.held }
@@ -247,6 +332,7 @@ impl Window {
         self.standing = Standing::Start;
     }
 
+    #[inline(always)]
     fn take(&mut self, count: usize) -> &[u8]
         requires here { count ≤ length self.old.held }
         requires bound { self.old.passed + count ≤ most_bytes }
@@ -260,6 +346,7 @@ impl Window {
     }
 
     // Moves what it holds to the front, and reads once more.
+    #[inline(never)]
     fn refill<S: Source>(&mut self, src: &mut S) -> Result<(), TokenFault>
         requires room { length self.old.held < SIZE }
         requires going { self.old.ended ≡ false }
@@ -299,6 +386,7 @@ impl Window {
     }
 
     // Passes over the blanks that it holds, and looks at the word behind them.
+    #[inline(always)]
     fn look(&mut self) -> Look
         ensures moves { Moves self.old self.new }
         ensures after { self.new ≡ passed_over (blanks self.old) self.old }
@@ -323,6 +411,7 @@ impl Window {
     }
 
     // Passes over blanks up to the next word of the line, and holds the whole of it: so many bytes, 0 at the line's end.
+    #[inline(always)]
     fn find<S: Source>(&mut self, src: &mut S) -> Result<usize, TokenFault>
         requires { self.old.standing ≡ Standing.Content }
         ensures takes { Takes self.old self.new result }
@@ -362,7 +451,7 @@ impl Window {
         let _ = &self.buf;
         let readable = self.readable();
         let len = readable.len();
-        match memchr(b'\n', readable) {
+        match find_line_feed(readable) {
             Some(at) => self.pass_line(at + 1),
             None => self.pass(len),
         }

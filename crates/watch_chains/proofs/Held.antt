@@ -2,14 +2,14 @@
 use Rattle.std.proofs.Common.{◌≡◌, ◌≢◌, ℕ, ◌<◌, ◌⊎◌, List, ◌∷◌, length, Option, Some, None, refl, sym, ap, ◌∙◌, subst, inl, inr, cond, true, false, Bool, nat_eq, ◌&&◌, eqb-true, get_or-set_other, get_or-set_same}
 use Rattle.std.specs.Prelude.{slice_set}
 use Rattle.std.proofs.Math.ListN.{length-set}
-use Rattle.std.proofs.lemmas.Option.{none-some}
+use Rattle.std.proofs.lemmas.Option.{none-some, same_Some}
 use Rattle.std.proofs.lemmas.Bool.{cases_Bool}
 use Rattle.lits.specs.Clause.{has}
 use Rattle.clause_store.specs.Clauses.{Store, IsOnce, IsStore}
 use Rattle.watch_chains.specs.declared.links.Backs.{Backs}
 use Rattle.watch_chains.specs.Runs.{set_at, put, without, fronted, joined_next, joined_back, joined_head, AreRuns, IsRun}
-use Rattle.watch_chains.specs.Links.{unlinked, id_at, IsMember, which_in, next_in, with_next, back_by, backs_at, back_in, with_back, head_at, fronted_backs, joined_store, joined_backs, joined_heads, AreHeld, AreChained, nobody}
-use Rattle.watch_chains.proofs.Running.{member_cases, has-without_at, once-without, unlike, set_at_same, run-same, runs-front, runs-join, front-in, next-in, back-member, next-apart, back-apart}
+use Rattle.watch_chains.specs.Links.{unlinked, id_at, IsMember, which_in, next_in, with_next, unpacked, back_by, backs_at, back_in, with_back, head_at, fronted_backs, joined_store, joined_backs, joined_heads, AreHeld, AreChained, nobody}
+use Rattle.watch_chains.proofs.Running.{member_cases, has-without_at, once-without, unlike, set_at_same, run-same, runs-front, runs-join, front-in, next-in, back-member, next-apart, back-apart, apart_of, sides-apart}
 use Rattle.watch_chains.proofs.Placed.{SameLists, same-which, same-member, same-relinked, next-set, back-set, unlinked-relinked}
 
 -- ---- One change
@@ -22,17 +22,17 @@ held-next away m backs next back cs l s to st h g =
       member = λ k t q a. same-member m (with_next m l s to) lists k t (g.member k t q a);
       room = g.room;
       next_is = λ k t q a. next-set m l s to k t st h (g.member k t q a) ∙ ap (λ z. cond (nat_eq k l && nat_eq t s) to z) (g.next_is k t q a);
-      back_is = λ k t q a. ap (λ w. back_by w (backs_at backs t)) (same-which m (with_next m l s to) lists k t (g.member k t q a).slot) ∙ g.back_is k t q a;
+      back_is = λ k t q a. ap (λ w. unpacked t (back_by w (backs_at backs t))) (same-which m (with_next m l s to) lists k t (g.member k t q a).slot) ∙ g.back_is k t q a;
       once = g.once;
     }
 
-pub held-back : (away : ℕ → Bool) (m : Store) (backs : List Backs) (next back : ℕ → ℕ → Option ℕ) (cs : ℕ → List ℕ) (l s : ℕ) (to : Option ℕ) → s < length backs → IsMember m l s → AreHeld away m backs next back cs
+pub held-back : (away : ℕ → Bool) (m : Store) (backs : List Backs) (next back : ℕ → ℕ → Option ℕ) (cs : ℕ → List ℕ) (l s : ℕ) (to : Option ℕ) → to ≢ Some s → s < length backs → IsMember m l s → AreHeld away m backs next back cs
     → AreHeld away m (with_back m backs l s to) next (set_at back l s to) cs
-held-back away m backs next back cs l s to lt h g = record {
+held-back away m backs next back cs l s to ne lt h g = record {
   member = g.member;
   room = λ k t q a. subst (λ n. t < n) (sym (length-set backs s _)) (g.room k t q a);
   next_is = g.next_is;
-  back_is = λ k t q a. back-set m backs l s to k t lt h (g.member k t q a) ∙ ap (λ z. cond (nat_eq k l && nat_eq t s) to z) (g.back_is k t q a);
+  back_is = λ k t q a. back-set m backs l s to k t ne lt h (g.member k t q a) ∙ ap (λ z. cond (nat_eq k l && nat_eq t s) to z) (g.back_is k t q a);
   once = g.once;
 }
 
@@ -90,21 +90,21 @@ held-more away m backs next back cs l s h absent g = record {
 -- ---- A slot in front of a chain
 
 module _ (away : ℕ → Bool) (m : Store) (backs : List Backs) (next back : ℕ → ℕ → Option ℕ) (cs : ℕ → List ℕ) (l s : ℕ) (st : IsStore m) (g : AreHeld away m backs next back cs) (h : IsMember m l s) (lt : s < length backs) where
-  backs-fronted : (f : Option ℕ) → ((t : ℕ) → f ≡ Some t → IsMember m l t × (t < length backs)) → AreHeld away m (fronted_backs m backs l s f) next (fronted back l s f) cs
-  backs-fronted None known = held-back away m backs next back cs l s None lt h g
-  backs-fronted (Some t) known = held-back away m (with_back m backs l s None) next (set_at back l s None) cs l t (Some s) (subst (λ n. t < n) (sym (length-set backs s _)) (known t refl).1) (known t refl).0
-      (held-back away m backs next back cs l s None lt h g)
+  backs-fronted : (f : Option ℕ) → ((t : ℕ) → f ≡ Some t → IsMember m l t × (t < length backs) × (t ≢ s)) → AreHeld away m (fronted_backs m backs l s f) next (fronted back l s f) cs
+  backs-fronted None known = held-back away m backs next back cs l s None (none-some s) lt h g
+  backs-fronted (Some t) known = held-back away m (with_back m backs l s None) next (set_at back l s None) cs l t (Some s) (λ e. (known t refl).2 (sym (same_Some s t e))) (subst (λ n. t < n) (sym (length-set backs s _)) (known t refl).1) (known t refl).0
+      (held-back away m backs next back cs l s None (none-some s) lt h g)
 
   length-fronted : (f : Option ℕ) → length (fronted_backs m backs l s f) ≡ length backs
   length-fronted None = length-set backs s _
   length-fronted (Some t) = length-set (with_back m backs l s None) t _ ∙ length-set backs s _
 
-  back-fronted : (f : Option ℕ) → ((t : ℕ) → f ≡ Some t → IsMember m l t × (t < length backs)) → back_in m (fronted_backs m backs l s f) l s ≡ fronted back l s f l s
-  back-fronted None known = back-set m backs l s None l s lt h h ∙ set_at_same (back_in m backs) l s None ∙ sym (set_at_same back l s None)
-  back-fronted (Some t) known = back-set m (with_back m backs l s None) l t (Some s) l s (subst (λ n. t < n) (sym (length-set backs s _)) (known t refl).1) (known t refl).0 h
-      ∙ ap (λ z. cond (nat_eq l l && nat_eq s t) (Some s) z) (back-set m backs l s None l s lt h h ∙ set_at_same (back_in m backs) l s None ∙ sym (set_at_same back l s None))
+  back-fronted : (f : Option ℕ) → ((t : ℕ) → f ≡ Some t → IsMember m l t × (t < length backs) × (t ≢ s)) → back_in m (fronted_backs m backs l s f) l s ≡ fronted back l s f l s
+  back-fronted None known = back-set m backs l s None l s (none-some s) lt h h ∙ set_at_same (back_in m backs) l s None ∙ sym (set_at_same back l s None)
+  back-fronted (Some t) known = back-set m (with_back m backs l s None) l t (Some s) l s (λ e. (known t refl).2 (sym (same_Some s t e))) (subst (λ n. t < n) (sym (length-set backs s _)) (known t refl).1) (known t refl).0 h
+      ∙ ap (λ z. cond (nat_eq l l && nat_eq s t) (Some s) z) (back-set m backs l s None l s (none-some s) lt h h ∙ set_at_same (back_in m backs) l s None ∙ sym (set_at_same back l s None))
 
-  pub held-front : (f : Option ℕ) → ((t : ℕ) → f ≡ Some t → IsMember m l t × (t < length backs)) → has (cs l) s ≡ false
+  pub held-front : (f : Option ℕ) → ((t : ℕ) → f ≡ Some t → IsMember m l t × (t < length backs) × (t ≢ s)) → has (cs l) s ≡ false
       → AreHeld away (with_next m l s f) (fronted_backs m backs l s f) (set_at next l s f) (fronted back l s f) (put cs l (s ∷ cs l))
   held-front f known absent =
       let lists : SameLists m (with_next m l s f) = same-relinked m (id_at m s) s (which_in m l s) f st h.slot in
@@ -112,7 +112,7 @@ module _ (away : ℕ → Bool) (m : Store) (backs : List Backs) (next back : ℕ
         member = same-member m (with_next m l s f) lists l s h;
         room = subst (λ n. s < n) (sym (length-fronted f)) lt;
         next_is = next-set m l s f l s st h h ∙ set_at_same (next_in m) l s f ∙ sym (set_at_same next l s f);
-        back_is = ap (λ w. back_by w (backs_at (fronted_backs m backs l s f) s)) (same-which m (with_next m l s f) lists l s h.slot) ∙ back-fronted f known;
+        back_is = ap (λ w. unpacked s (back_by w (backs_at (fronted_backs m backs l s f) s))) (same-which m (with_next m l s f) lists l s h.slot) ∙ back-fronted f known;
       } in
       held-more away (with_next m l s f) (fronted_backs m backs l s f) (set_at next l s f) (fronted back l s f) cs l s holds absent
       (held-next away m (fronted_backs m backs l s f) next (fronted back l s f) cs l s f st h (backs-fronted f known))
@@ -120,11 +120,11 @@ module _ (away : ℕ → Bool) (m : Store) (backs : List Backs) (next back : ℕ
 -- ---- A slot left out
 
 module _ (away : ℕ → Bool) (m : Store) (backs : List Backs) (next back : ℕ → ℕ → Option ℕ) (cs : ℕ → List ℕ) (l : ℕ) (st : IsStore m) (g : AreHeld away m backs next back cs) where
-  backs-joined : (n b : Option ℕ) → ((t : ℕ) → n ≡ Some t → IsMember m l t × (t < length backs)) → AreHeld away m (joined_backs m backs l n b) next (joined_back back l n b) cs
+  backs-joined : (n b : Option ℕ) → ((t : ℕ) → n ≡ Some t → IsMember m l t × (t < length backs) × (b ≢ Some t)) → AreHeld away m (joined_backs m backs l n b) next (joined_back back l n b) cs
   backs-joined None b known = g
-  backs-joined (Some t) b known = held-back away m backs next back cs l t b (known t refl).1 (known t refl).0 g
+  backs-joined (Some t) b known = held-back away m backs next back cs l t b (known t refl).2 (known t refl).1 (known t refl).0 g
 
-  pub held-join : (n b : Option ℕ) → ((t : ℕ) → n ≡ Some t → IsMember m l t × (t < length backs)) → ((t : ℕ) → b ≡ Some t → IsMember m l t)
+  pub held-join : (n b : Option ℕ) → ((t : ℕ) → n ≡ Some t → IsMember m l t × (t < length backs) × (b ≢ Some t)) → ((t : ℕ) → b ≡ Some t → IsMember m l t)
       → AreHeld away (joined_store m l n b) (joined_backs m backs l n b) (joined_next next l n b) (joined_back back l n b) cs
   held-join n None known known2 = backs-joined n None known
   held-join n (Some p) known known2 = held-next away m (joined_backs m backs l n (Some p)) next (joined_back back l n (Some p)) cs l p n st (known2 p refl) (backs-joined n (Some p) known)
@@ -199,12 +199,15 @@ module _ (away : ℕ → Bool) (m : Store) (heads : List (Option ℕ)) (backs : 
       let q : has (cs l) t ≡ true = back-member (next l) (back l) (head_at heads l) (cs l) s t (k.runs l) present e in
       k.held.member l t q (here t q (λ f. back-apart (next l) (back l) None (head_at heads l) (cs l) s (k.runs l) (k.held.once l) (λ u p. none-some u) present (subst (λ z. back l s ≡ Some z) f e)))
 
+  both-known : (t : ℕ) → next l s ≡ Some t → IsMember m l t × (t < length backs) × (back l s ≢ Some t)
+  both-known t e = let r = behind-known t e in (r.0, r.1, sides-apart (next l) (back l) None (head_at heads l) (cs l) s t (k.runs l) (k.held.once l) (λ u q. none-some u) present e)
+
   pub kept-join : l < length heads → AreKept away (joined_store m l (next l s) (back l s)) (joined_heads heads l (next l s) (back l s)) (joined_backs m backs l (next l s) (back l s)) (joined_next next l (next l s) (back l s)) (joined_back back l (next l s) (back l s)) (put cs l (without s (cs l)))
   kept-join lt = record {
     stored = store-joined m l (next l s) (back l s) k.stored before-known;
     held = held-fewer away (joined_store m l (next l s) (back l s)) (joined_backs m backs l (next l s) (back l s)) (joined_next next l (next l s) (back l s)) (joined_back back l (next l s) (back l s)) cs (put cs l (without s (cs l)))
         (put_fewer cs l s) (put_once cs l (without s (cs l)) k.held.once (once-without s (cs l) (k.held.once l)))
-        (held-join away m backs next back cs l k.stored k.held (next l s) (back l s) behind-known before-known);
+        (held-join away m backs next back cs l k.stored k.held (next l s) (back l s) both-known before-known);
     runs = runs-heads (joined_next next l (next l s) (back l s)) (joined_back back l (next l s) (back l s)) (joined_head (head_at heads) l (next l s) (back l s)) (head_at (joined_heads heads l (next l s) (back l s))) (put cs l (without s (cs l)))
         (λ j. head-joined heads l (next l s) (back l s) j lt) (runs-join next back (head_at heads) cs l s k.runs k.held.once present);
   }
@@ -223,6 +226,7 @@ pub chained-front : (m : Store) (heads : List (Option ℕ)) (backs : List Backs)
     → AreChained (with_next m l s (head_at heads l)) (slice_set heads l (Some s)) (fronted_backs m backs l s (head_at heads l)) (put cs l (s ∷ cs l))
 chained-front m heads backs cs l s c h lt lt2 absent = settle nobody (with_next m l s (head_at heads l)) (slice_set heads l (Some s)) (fronted_backs m backs l s (head_at heads l)) (set_at (next_in m) l s (head_at heads l)) (fronted (back_in m backs) l s (head_at heads l)) (put cs l (s ∷ cs l)) (λ k t q. refl) (record {
   stored = (same-relinked m (id_at m s) s (which_in m l s) (head_at heads l) c.stored h.slot).after;
-  held = held-front nobody m backs (next_in m) (back_in m backs) cs l s c.stored c.held h lt (head_at heads l) (head-known m heads backs cs l c) absent;
+  held = held-front nobody m backs (next_in m) (back_in m backs) cs l s c.stored c.held h lt (head_at heads l)
+      (λ t e. let r = head-known m heads backs cs l c t e in (r.0, r.1, apart_of s t (cs l) absent (front-in (next_in m l) (back_in m backs l) None (head_at heads l) (cs l) t (c.runs l) e))) absent;
   runs = runs-heads (set_at (next_in m) l s (head_at heads l)) (fronted (back_in m backs) l s (head_at heads l)) (put (head_at heads) l (Some s)) (head_at (slice_set heads l (Some s))) (put cs l (s ∷ cs l)) (λ j. head-put heads l (Some s) j lt2) (runs-front (next_in m) (back_in m backs) (head_at heads) cs l s c.runs c.held.once absent);
 })

@@ -9,7 +9,7 @@ use Rattle.lits.proofs.Ascending.{has-set_of}
 use Rattle.clause_store.specs.Clauses.{Held, Place, Store, IsOnce, IsStore, IsFresh, slot_at, place_at, lits_at, literals_at, with_place}
 use Rattle.watch_chains.specs.declared.links.Backs.{Backs}
 use Rattle.watch_chains.specs.Chains.{is_watch, chain_at, entered, left}
-use Rattle.watch_chains.specs.Links.{no_links, unlinked, id_at, lits_of, next_in, back_in, which_in, back_by, backs_at, AreHeld, AreChained, nobody, CanEnter, CanLeave, chains_of, entered_by, left_by, IsInside}
+use Rattle.watch_chains.specs.Links.{no_links, unlinked, id_at, lits_of, next_in, back_in, which_in, unpacked, back_by, backs_at, AreHeld, AreChained, nobody, CanEnter, CanLeave, chains_of, entered_by, left_by, IsInside}
 use Rattle.watch_chains.proofs.Running.{differs, unlike}
 use Rattle.watch_chains.proofs.Placed.{active, id_at-slot, id_at-is, lits_placed, get-unlinked, slot-unlinked, lits-unlinked, literals-unlinked}
 use Rattle.watch_chains.proofs.Held.{settle}
@@ -121,7 +121,7 @@ module _ (m n : Store) (heads : List (Option ℕ)) (backs backs' : List Backs) (
           member = moved.member;
           room = λ l t q a. let r = moved.room l t q a in omega (arith, r, e.longer);
           next_is = moved.next_is;
-          back_is = λ l t q a. ap (back_by (which_in n l t)) (e.same_backs t (moved.room l t q a)) ∙ moved.back_is l t q a;
+          back_is = λ l t q a. ap (λ b. unpacked t (back_by (which_in n l t) b)) (e.same_backs t (moved.room l t q a)) ∙ moved.back_is l t q a;
           once = moved.once;
         };
         runs = k.chained.runs;

@@ -78,6 +78,10 @@ module _ (m : Store) (heads : List (Option ℕ)) (backs : List Backs) (s k : ℕ
   pub reserved-a : a < length heads
   reserved-a = h.reserved a (ap (has (lits_of m s)) second ∙ has-place (lits_of m s) 1 (let y = long in omega arith))
 
+  -- its link in that chain is that of the second literal
+  pub second-a : which_in m a s ≡ Two
+  second-a = ap (λ c. cond c One Two) (differs (slice_index (lits_of m s) 0) a (λ e. once-places (lits_of m s) 0 1 once (omega arith) (let y = long in omega arith) (e ∙ second)))
+
   -- the chains when the clause has left the one
   out : ℕ → List ℕ
   out = put cs a (without s (cs a))
@@ -168,6 +172,14 @@ module _ (m : Store) (heads : List (Option ℕ)) (backs : List Backs) (s k : ℕ
             slot = ap (slot_at p) here ∙ slot-in;
             watch = ap (λ z. is_watch z b) (ap (lits_at p) here ∙ lits-in) ∙ and_from _ _ (ap (nat_le 2) (length-swap (lits_of m s) 1 k) ∙ le-leb 2 (length (lits_of m s)) long) (or_right _ _ (eq-eqb (slice_index (swap (lits_of m s) 1 k) 1) b at));
           }
+
+      pub second-b : which_in p b s ≡ Two
+      second-b =
+          let here : id_at p s ≡ id_at m s = id_at-is p (id_at m s) s stored-in slot-in in
+          let z = h.later in
+          let first : slice_index (swap (lits_of m s) 1 k) 0 ≡ slice_index (lits_of m s) 0 = at-third (lits_of m s) 1 k 0 (let y = long in omega arith) h.in_bounds (omega arith) (omega arith) in
+          ap (λ ls. cond (nat_eq (slice_index ls 0) b) One Two) (ap (lits_at p) here ∙ lits-in)
+          ∙ ap (λ c. cond c One Two) (differs (slice_index (swap (lits_of m s) 1 k) 0) b (λ e. once-places (lits_of m s) 0 k once (omega arith) h.in_bounds (sym first ∙ e ∙ later)))
 
       pub head-b : IfSome (head_at heads' b) (λ t. IsMember p b t × (t < length backs'))
       head-b = if_some (head_at heads' b) (λ t. IsMember p b t × (t < length backs')) (head-known p heads' backs' out b chained-in)

@@ -16,7 +16,7 @@ use Rattle.clause_store.proofs.Changed.{swap-set, swap-once}
 use Rattle.watch_chains.specs.declared.links.Backs.{Backs}
 use Rattle.watch_chains.specs.Runs.{set_at}
 use Rattle.watch_chains.specs.Chains.{is_watch}
-use Rattle.watch_chains.specs.Links.{no_links, unlinked, has_slot, id_among, id_at, lits_of, IsMember, which_in, next_in, with_next, no_backs, back_by, with_back_by, backs_at, back_in, with_back}
+use Rattle.watch_chains.specs.Links.{no_links, unlinked, has_slot, id_among, id_at, lits_of, IsMember, which_in, next_in, with_next, no_backs, back_by, with_back_by, packed, unpacked, backs_at, back_in, with_back}
 use Rattle.watch_chains.proofs.Running.{member_cases, differs, unlike, set_at_same, set_at_slot, set_at_lit}
 
 -- ---- The id at a slot
@@ -380,29 +380,33 @@ next-set m l s to k t st h g =
           link-other m (id_at m s) (id_at m t) (which_in m l s) (which_in m k t) to apart ∙ sym (set_at_slot (next_in m) l s k t to n)
     ]
 
-back_by-same : (w : Which) (to : Option ℕ) (b : Backs) → back_by w (with_back_by w to b) ≡ to
+back_by-same : (w : Which) (to : ℕ) (b : Backs) → back_by w (with_back_by w to b) ≡ to
 back_by-same One to b = refl
 back_by-same Two to b = refl
 
-back_by-other : (w v : Which) (to : Option ℕ) (b : Backs) → w ≢ v → back_by v (with_back_by w to b) ≡ back_by v b
+back_by-other : (w v : Which) (to : ℕ) (b : Backs) → w ≢ v → back_by v (with_back_by w to b) ≡ back_by v b
 back_by-other One One to b ne = absurd (ne refl)
 back_by-other One Two to b ne = refl
 back_by-other Two One to b ne = refl
 back_by-other Two Two to b ne = absurd (ne refl)
 
--- the slots before the members, where one is set
-pub back-set : (m : Store) (backs : List Backs) (l s : ℕ) (to : Option ℕ) (k t : ℕ) → s < length backs → IsMember m l s → IsMember m k t → back_in m (with_back m backs l s to) k t ≡ set_at (back_in m backs) l s to k t
-back-set m backs l s to k t lt h g = elim (cases_Bool (nat_eq t s)) [
+unpacked-packed : (s : ℕ) (to : Option ℕ) → to ≢ Some s → unpacked s (packed s to) ≡ to
+unpacked-packed s None ne = let e : nat_eq s s ≡ true = eq-eqb s s refl in rw e refl
+unpacked-packed s (Some t) ne = let e : nat_eq t s ≡ false = differs t s (λ f. ne (ap (λ z. Some z) f)) in rw e refl
+
+-- the slots before the members, where one is set that is another
+pub back-set : (m : Store) (backs : List Backs) (l s : ℕ) (to : Option ℕ) (k t : ℕ) → to ≢ Some s → s < length backs → IsMember m l s → IsMember m k t → back_in m (with_back m backs l s to) k t ≡ set_at (back_in m backs) l s to k t
+back-set m backs l s to k t ne lt h g = elim (cases_Bool (nat_eq t s)) [
   | inl y ↦ let e : t ≡ s = eqb-true t s y in
-      let here : backs_at (with_back m backs l s to) s ≡ with_back_by (which_in m l s) to (backs_at backs s) = get_or-set_same backs s _ no_backs lt in
+      let here : backs_at (with_back m backs l s to) s ≡ with_back_by (which_in m l s) (packed s to) (backs_at backs s) = get_or-set_same backs s _ no_backs lt in
       elim (cases_Bool (nat_eq k l)) [
         | inl z ↦ let f : k ≡ l = eqb-true k l z in
             subst (λ u. back_in m (with_back m backs l s to) k u ≡ set_at (back_in m backs) l s to k u) (sym e)
             (subst (λ u. back_in m (with_back m backs l s to) u s ≡ set_at (back_in m backs) l s to u s) (sym f)
-            (ap (back_by (which_in m l s)) here ∙ back_by-same (which_in m l s) to (backs_at backs s) ∙ sym (set_at_same (back_in m backs) l s to)))
+            (ap (unpacked s) (ap (back_by (which_in m l s)) here ∙ back_by-same (which_in m l s) (packed s to) (backs_at backs s)) ∙ unpacked-packed s to ne ∙ sym (set_at_same (back_in m backs) l s to)))
         | inr n ↦ let g2 : IsMember m k s = subst (IsMember m k) e g in
             subst (λ u. back_in m (with_back m backs l s to) k u ≡ set_at (back_in m backs) l s to k u) (sym e)
-            (ap (back_by (which_in m k s)) here ∙ back_by-other (which_in m l s) (which_in m k s) to (backs_at backs s) (λ same. unlike k l n (sym (which-apart m l k s h g2 same))) ∙ sym (set_at_lit (back_in m backs) l s k s to n))
+            (ap (unpacked s) (ap (back_by (which_in m k s)) here ∙ back_by-other (which_in m l s) (which_in m k s) (packed s to) (backs_at backs s) (λ same. unlike k l n (sym (which-apart m l k s h g2 same)))) ∙ sym (set_at_lit (back_in m backs) l s k s to n))
       ]
-  | inr n ↦ ap (back_by (which_in m k t)) (get_or-set_other backs s t _ no_backs (unlike t s n)) ∙ sym (set_at_slot (back_in m backs) l s k t to n)
+  | inr n ↦ ap (λ b. unpacked t (back_by (which_in m k t) b)) (get_or-set_other backs s t _ no_backs (unlike t s n)) ∙ sym (set_at_slot (back_in m backs) l s k t to n)
 ]

@@ -132,6 +132,14 @@ pub front-in : (next back : ℕ → Option ℕ) (b h : Option ℕ) (ss : List �
 front-in next back b h [] t r f = absurd (none-some t (sym r ∙ f))
 front-in next back b h (z ∷ zs) t r f = subst (λ u. has (z ∷ zs) u ≡ true) (same_Some z t (sym r.0 ∙ f)) (has-here z zs)
 
+-- what stands before a slot and what stands behind it differ
+pub sides-apart : (next back : ℕ → Option ℕ) (b h : Option ℕ) (ss : List ℕ) (s t : ℕ) → IsRun next back b h ss → IsOnce ss → ((u : ℕ) → has ss u ≡ true → b ≢ Some u) → has ss s ≡ true → next s ≡ Some t → back s ≢ Some t
+sides-apart next back b h [] s t r o apart m e f = cc
+sides-apart next back b h (x ∷ xs) s t r o apart m e f = elim (member_cases x s xs m) [
+  | inl same ↦ apart t (next-in next back b h (x ∷ xs) s t r m e) (sym r.1 ∙ sym (ap back same) ∙ f)
+  | inr later ↦ sides-apart next back (Some x) (next x) xs s t r.2 o.1 (λ u q g. apart_of x u xs o.0 q (same_Some u x (sym g))) later e f
+]
+
 -- what a chain's links are with a slot in front
 pub record Fronts (next back next' back' : ℕ → Option ℕ) (h : Option ℕ) (ss : List ℕ) (s : ℕ) : Type 0 where
   pub next_here : next' s ≡ h

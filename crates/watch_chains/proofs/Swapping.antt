@@ -14,7 +14,7 @@ use Rattle.clause_store.specs.Clauses.{Held, Place, Store, IsOnce, IsStore, slot
 use Rattle.clause_store.proofs.Stored.{get_put}
 use Rattle.watch_chains.specs.declared.links.Backs.{Backs}
 use Rattle.watch_chains.specs.Chains.{is_watch, chain_at, turned}
-use Rattle.watch_chains.specs.Links.{unlinked, id_at, next_in, back_in, back_by, backs_at, no_backs, turned_backs, AreHeld, AreChained, nobody, chains_of, seen, IsInside}
+use Rattle.watch_chains.specs.Links.{unlinked, id_at, next_in, back_in, unpacked, back_by, backs_at, no_backs, turned_backs, AreHeld, AreChained, nobody, chains_of, seen, IsInside}
 use Rattle.watch_chains.proofs.Running.{differs, unlike}
 use Rattle.watch_chains.proofs.Placed.{active, id_at-is, lits_placed, place-changed, place-kept, SameLists, same-relinked, store-swapped, which-lit, unlinked-swap, unlinked-relinked, literals-unlinked}
 use Rattle.watch_chains.proofs.Held.{Holds, settle}
@@ -86,7 +86,7 @@ holds-turned m n backs backs' next back l t st size u h =
       member = record { slot = ap (slot_at n) same ∙ u.slot ∙ h.member.slot; watch = ap (λ q. is_watch (lits_at n q) l) same ∙ u.watch h.member.watch };
       room = subst (λ z. t < z) (sym size) h.room;
       next_is = ap (λ q. link_at n q (cond (nat_eq (slice_index (lits_at n q) 0) l) One Two)) same ∙ u.next ∙ h.next_is;
-      back_is = ap (λ q. back_by (cond (nat_eq (slice_index (lits_at n q) 0) l) One Two) (backs_at backs' t)) same ∙ u.back ∙ h.back_is;
+      back_is = ap (λ q. unpacked t (back_by (cond (nat_eq (slice_index (lits_at n q) 0) l) One Two) (backs_at backs' t))) same ∙ ap (unpacked t) u.back ∙ h.back_is;
     }
 
 pub held-each : (m n : Store) (backs backs' : List Backs) (next back : ℕ → ℕ → Option ℕ) (cs : ℕ → List ℕ) → ((l t : ℕ) → has (cs l) t ≡ true → Holds m backs next back l t → Holds n backs' next back l t) → AreHeld nobody m backs next back cs → AreHeld nobody n backs' next back cs

@@ -12,7 +12,7 @@ use Rattle.watch_chains.specs.declared.links.Ends.{Ends}
 use Rattle.watch_chains.specs.declared.links.Sides.{Sides}
 use Rattle.watch_chains.specs.Runs.{put, without, joined_next, joined_back}
 use Rattle.watch_chains.specs.Chains.{is_watch}
-use Rattle.watch_chains.specs.Links.{unlinked, id_at, lits_of, IsMember, which_in, next_in, with_next, back_by, backs_at, back_in, head_at, fronted_backs, joined_store, joined_backs, joined_heads, end_in, ends_in, entered_by, left_by, AreHeld, AreChained, CanEnter, CanLeave, nobody}
+use Rattle.watch_chains.specs.Links.{unlinked, id_at, lits_of, IsMember, which_in, next_in, with_next, unpacked, back_by, backs_at, back_in, head_at, fronted_backs, joined_store, joined_backs, joined_heads, end_in, ends_in, entered_by, left_by, AreHeld, AreChained, CanEnter, CanLeave, nobody}
 use Rattle.watch_chains.proofs.Running.{has-here, has-there, has-without_at, differs, unlike, put_other, joined_next_lit, joined_back_lit}
 use Rattle.watch_chains.proofs.Placed.{active, id_at-is, SameLists, same-member, same-relinked, unlinked-relinked, lits_placed}
 use Rattle.watch_chains.proofs.Held.{AreKept, settle, kept-join, behind-known, before-known, chained-front, unseen-joined, length-joined_heads, length-fronted_backs}
@@ -119,7 +119,7 @@ held-moved away far m n backs next back cs st g h = record {
   member = λ l t q a. record { slot = ap (option_map (λ p. p.slot)) (place l t q a) ∙ (known l t q a).slot; watch = ap (λ o. is_watch (unwrap_or (option_map (λ p. p.lits) o) []) l) (place l t q a) ∙ (known l t q a).watch };
   room = λ l t q a. g.room l t q (h l t q a).0;
   next_is = λ l t q a. ap (λ o. option_and_then (place_link (cond (nat_eq (slice_index (unwrap_or (option_map (λ p. p.lits) o) []) 0) l) One Two)) o) (place l t q a) ∙ g.next_is l t q (h l t q a).0;
-  back_is = λ l t q a. ap (λ o. back_by (cond (nat_eq (slice_index (unwrap_or (option_map (λ p. p.lits) o) []) 0) l) One Two) (backs_at backs t)) (place l t q a) ∙ g.back_is l t q (h l t q a).0;
+  back_is = λ l t q a. ap (λ o. unpacked t (back_by (cond (nat_eq (slice_index (unwrap_or (option_map (λ p. p.lits) o) []) 0) l) One Two) (backs_at backs t))) (place l t q a) ∙ g.back_is l t q (h l t q a).0;
   once = g.once;
 }
   where

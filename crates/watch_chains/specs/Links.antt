@@ -59,13 +59,21 @@ abbrev pub with_next : Store → ℕ → ℕ → Option ℕ → Store
 with_next m l s to = with_link m (id_at m s) (which_in m l s) to
 
 abbrev pub no_backs : Backs
-no_backs = record { one = None; two = None }
+no_backs = record { one = 0; two = 0 }
 
-abbrev pub back_by : Which → Backs → Option ℕ
+-- a way back as the table keeps it at a slot: the slot's own number where there is none
+abbrev pub packed : ℕ → Option ℕ → ℕ
+packed s None = s
+packed s (Some t) = t
+
+abbrev pub unpacked : ℕ → ℕ → Option ℕ
+unpacked s t = if nat_eq t s then None else Some t
+
+abbrev pub back_by : Which → Backs → ℕ
 back_by One b = b.one
 back_by Two b = b.two
 
-abbrev pub with_back_by : Which → Option ℕ → Backs → Backs
+abbrev pub with_back_by : Which → ℕ → Backs → Backs
 with_back_by One to b = record { one = to; two = b.two }
 with_back_by Two to b = record { one = b.one; two = to }
 
@@ -74,11 +82,11 @@ backs_at backs s = slice_index_or backs s no_backs
 
 -- the slot before a slot in a literal's chain
 abbrev pub back_in : Store → List Backs → ℕ → ℕ → Option ℕ
-back_in m backs l s = back_by (which_in m l s) (backs_at backs s)
+back_in m backs l s = unpacked s (back_by (which_in m l s) (backs_at backs s))
 
 -- with another slot before it
 abbrev pub with_back : Store → List Backs → ℕ → ℕ → Option ℕ → List Backs
-with_back m backs l s to = slice_set backs s (with_back_by (which_in m l s) to (backs_at backs s))
+with_back m backs l s to = slice_set backs s (with_back_by (which_in m l s) (packed s to) (backs_at backs s))
 
 -- the front of a literal's chain
 abbrev pub head_at : List (Option ℕ) → ℕ → Option ℕ

@@ -5,18 +5,20 @@
 ghost use Rattle.clause_store.specs.Clauses.{slot_at, with_swap, IsStore, Store as Clauses};
 ghost use Rattle.std.specs.List.{list_all};
 ghost use Rattle.std.specs.Prelude.{nat_lt, ◌≡◌, ℕ, ◌<◌, List, length, IfSome, OnOk, OnErr, Some, ◌≤◌, ◌≢◌, slice_index, slice_set};
+ghost use Rattle.lit_pool.specs.declared.Which.TheVariants.{Two};
 ghost use Rattle.watch_chains.specs.Chains.{AreWatches};
+ghost use Rattle.watch_chains.specs.Links as ways;
 ghost use Rattle.watch_chains.specs.Links.{IsMember, AreChained, CanEnter, CanLeave, CanMove, CanPart, lits_of, id_at, backs_at, ends_in, turned_store, turned_backs, moved_by, entered_by, left_by, unlinked, which_in, next_in, with_next, back_in, with_back, head_at, fronted_backs, joined_store, joined_backs, joined_heads};
 
 use clause_store::{Slot, Store, Which};
 use lits::Lit;
 use std::alloc::AllocError;
 
-/// The slots before a clause in its two chains.
+/// The slots before a clause in its two chains; the clause's own slot where there is none.
 #[derive(Clone, Copy)]
 pub(crate) struct Backs {
-    pub(crate) one: Option<Slot>,
-    pub(crate) two: Option<Slot>,
+    one: Slot,
+    two: Slot,
 }
 
 /// What stands on both sides of a clause in a literal's chain.
@@ -41,6 +43,23 @@ pub(crate) fn are_below(lits: &[Lit], end: usize) -> bool
     lits.iter().all(|l| (l.code() as usize) < end)
 }
 
+/// A way back as the table keeps it at a slot.
+fn packed(s: Slot, to: Option<Slot>) -> Slot
+    ensures { result ≡ ways.packed s to }
+{
+    match to {
+        Some(t) => t,
+        None => s,
+    }
+}
+
+/// The way back that the table keeps at a slot.
+fn unpacked(s: Slot, t: Slot) -> Option<Slot>
+    ensures { result ≡ ways.unpacked s t }
+{
+    if t == s { None } else { Some(t) }
+}
+
 /// Makes room for a slot in the table. After an error the table is as it was.
 pub(crate) fn grow(backs: &mut Vec<Backs>, s: Slot) -> Result<(), AllocError>
     ensures room { OnOk result (s < length backs.new.items) }
@@ -53,10 +72,7 @@ pub(crate) fn grow(backs: &mut Vec<Backs>, s: Slot) -> Result<(), AllocError>
         return Err(AllocError);
     };
     if backs.len() < end {
-        let nothing = Backs {
-            one: None,
-            two: None,
-        };
+        let nothing = Backs { one: s, two: s };
         backs.resize(end, nothing)?;
     }
     Ok(())
@@ -105,8 +121,8 @@ fn back_of(store: &Store, backs: &Vec<Backs>, l: Lit, s: Slot) -> Option<Slot>
 {
     let both = backs[s.number() as usize];
     match which_of(store, l, s) {
-        Which::One => both.one,
-        Which::Two => both.two,
+        Which::One => unpacked(s, both.one),
+        Which::Two => unpacked(s, both.two),
     }
 }
 
@@ -117,17 +133,10 @@ fn set_back(store: &Store, backs: &mut Vec<Backs>, l: Lit, s: Slot, to: Option<S
     ensures { backs.new.items ≡ with_back store.now backs.old.items l s to }
 {
     let at = s.number() as usize;
-    let both = backs[at];
-    backs[at] = match which_of(store, l, s) {
-        Which::One => Backs {
-            one: to,
-            two: both.two,
-        },
-        Which::Two => Backs {
-            one: both.one,
-            two: to,
-        },
-    };
+    match which_of(store, l, s) {
+        Which::One => backs[at].one = packed(s, to),
+        Which::Two => backs[at].two = packed(s, to),
+    }
 }
 
 /// What stands on both sides of a member in a literal's chain.
@@ -140,6 +149,20 @@ pub(crate) fn ends_of(store: &Store, backs: &Vec<Backs>, l: Lit, s: Slot) -> End
         lit: l,
         next: next_of(store, l, s),
         back: back_of(store, backs, l, s),
+    }
+}
+
+/// What stands on both sides of a clause in the chain of the second literal of its list.
+fn second_ends(store: &Store, backs: &Vec<Backs>, l: Lit, s: Slot) -> Ends
+    requires member { IsMember store.now l s }
+    requires second { which_in store.now l s ≡ Two }
+    requires room { s < length backs.now.items }
+    ensures { result ≡ record { lit = l; next = next_in store.now l s; back = back_in store.now backs.now.items l s } }
+{
+    Ends {
+        lit: l,
+        next: store.link(s, Which::Two),
+        back: unpacked(s, backs[s.number() as usize].two),
     }
 }
 
@@ -166,6 +189,33 @@ pub(crate) fn front(
         set_back(store, backs, l, t, Some(s));
     }
     set_next(store, l, s, head);
+    heads[at] = Some(s);
+}
+
+/// Puts a clause in front of the chain of the second literal of its list.
+fn front_second(
+    store: &mut Store,
+    heads: &mut Vec<Option<Slot>>,
+    backs: &mut Vec<Backs>,
+    l: Lit,
+    s: Slot,
+)
+    requires member { IsMember store.old l s }
+    requires second { which_in store.old l s ≡ Two }
+    requires head { IfSome (head_at heads.old.items l) (λ t. IsMember store.old l t × (t < length backs.old.items)) }
+    requires room { s < length backs.old.items }
+    requires reserved { l < length heads.old.items }
+    ensures links { store.new ≡ with_next store.old l s (head_at heads.old.items l) }
+    ensures heads { heads.new.items ≡ slice_set heads.old.items l (Some s) }
+    ensures backs { backs.new.items ≡ fronted_backs store.old backs.old.items l s (head_at heads.old.items l) }
+{
+    let at = l.code() as usize;
+    let head = heads[at];
+    backs[s.number() as usize].two = s;
+    if let Some(behind) = head {
+        set_back(store, backs, l, behind, Some(s));
+    }
+    store.set_link(s, Which::Two, head);
     heads[at] = Some(s);
 }
 
@@ -287,8 +337,8 @@ pub(crate) fn move_second(
 {
     let (_, left) = store.pair(s);
     let joined = store.lits(s)[k];
-    let ends = ends_of(store, backs, left, s);
+    let ends = second_ends(store, backs, left, s);
     join(store, heads, backs, ends);
     store.swap(s, 1, k);
-    front(store, heads, backs, joined, s);
+    front_second(store, heads, backs, joined, s);
 }

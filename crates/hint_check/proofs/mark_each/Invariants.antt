@@ -1,4 +1,4 @@
-use Rattle.std.proofs.Common.{◌≡◌, ℕ, take}
+use Rattle.std.proofs.Common.{take}
 use Rattle.hint_check.specs.Marks.{IsMarked, IsBelow}
 use Rattle.hint_check.proofs.mark_each.Given as goal
 

@@ -1,4 +1,4 @@
-use Rattle.std.proofs.Common.{◌≡◌, ℕ, ◌<◌, List, length, Contains, sym, ap, ◌∙◌, arith}
+use Rattle.std.proofs.Common.{sym, ap, ◌∙◌, arith}
 use Rattle.hint_check.specs.Hints.{active_at, end_of}
 use Rattle.hint_check.proofs.Lefts.{hints_closed, hints_go}
 use Rattle.hint_check.proofs.run_over.Goals as goal

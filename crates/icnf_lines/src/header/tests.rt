@@ -1,3 +1,4 @@
+// Headers in single bytes: those that are right, lines that are none, and a read that fails.
 use crate::{HeaderFault, read_header};
 use outside::MemorySource;
 use session_rules::Rule;

@@ -1,3 +1,4 @@
+// The header, the line of each event, and one for which there is no room.
 use crate::{write_header, write_line};
 use lits::{Lit, Lits};
 use outside::MemorySink;

@@ -1,3 +1,4 @@
+// Texts that are read in pieces and written again, and broken lines with the rule of each.
 ghost use Rattle.std.specs.Prelude.{◌<◌};
 
 use crate::{read_line, write_line};

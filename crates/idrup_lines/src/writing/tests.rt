@@ -1,3 +1,4 @@
+// The header and the line of each step, byte for byte.
 use crate::{write_line, write_lits};
 use icnf_lines::write_header;
 use lits::{Lit, Lits};

@@ -1,3 +1,4 @@
+// The header and the line of each step, byte for byte.
 use crate::{write_id, write_lemma, write_line};
 use icnf_lines::write_header;
 use lits::{Lit, Lits};

@@ -1,3 +1,4 @@
+// Lines through sinks that take a few bytes at a time, sinks that fail, and a line that is too long to be held back.
 use crate::{Part, write_parts};
 use lits::Lit;
 use outside::MemorySink;

@@ -15,15 +15,15 @@ key_at-key-requires c = within_noted true c.self.inside.pool c.self.inside.claus
 pub invariant_of-self : goal.invariant_of-self
 invariant_of-self c =
     let f : Found true (row c.self.inside.clauses c.args.id) c.in-Some.slot = found true _ _ (sym c.active_slot.ensures ∙ c.in-Some.is) in
-    let h : Cuts c.self.inside.pool c.self.inside.clauses c.leave.new.clauses c.self.inside.active c.leave.new.active c.self.inside.weakened c.self.inside.noted.items c.args.id c.key_at-key.result f.k =
-    record { inside = c.self.invariant; here = f.is; on = f.on; keyed = ap (λ z. (noted c.self.inside.noted.items z).key) f.slot ∙ sym c.key_at-key.ensures; rows = c.leave.ensures.rows; pairs = c.leave.ensures.pairs } in
-    subst (λ z. IsInside z c.leave.new.clauses c.leave.new.active c.self.inside.weakened c.self.inside.noted.items) (ap (remove c.self.inside.pool) f.slot ∙ sym c.free.ensures) (inside-cut _ _ _ _ _ _ _ _ _ _ h)
+    let h : Cuts c.self.inside.indexed c.self.inside.pool c.self.inside.clauses c.leave.new.clauses c.self.inside.active c.leave.new.active c.self.inside.weakened c.self.inside.noted.items c.args.id c.key_at-key.result f.k =
+    record { inside = c.self.invariant; here = f.is; on = f.on; keyed = λ t. ap (λ z. (noted c.self.inside.noted.items z).key) f.slot ∙ c.key_at-key.ensures t; rows = c.leave.ensures.rows; pairs = c.leave.ensures.pairs } in
+    subst (λ z. IsInside c.self.inside.indexed z c.leave.new.clauses c.leave.new.active c.self.inside.weakened c.self.inside.noted.items) (ap (remove c.self.inside.pool) f.slot ∙ sym c.free.ensures) (inside-cut _ _ _ _ _ _ _ _ _ _ h)
 
 pub returns-clause-ok : goal.returns-clause-ok
 returns-clause-ok c =
     let f : Found true (row c.self.inside.clauses c.args.id) c.in-Some.slot = found true _ _ (sym c.active_slot.ensures ∙ c.in-Some.is) in
-    let h : Cuts c.self.inside.pool c.self.inside.clauses c.leave.new.clauses c.self.inside.active c.leave.new.active c.self.inside.weakened c.self.inside.noted.items c.args.id c.key_at-key.result f.k =
-    record { inside = c.self.invariant; here = f.is; on = f.on; keyed = ap (λ z. (noted c.self.inside.noted.items z).key) f.slot ∙ sym c.key_at-key.ensures; rows = c.leave.ensures.rows; pairs = c.leave.ensures.pairs } in
+    let h : Cuts c.self.inside.indexed c.self.inside.pool c.self.inside.clauses c.leave.new.clauses c.self.inside.active c.leave.new.active c.self.inside.weakened c.self.inside.noted.items c.args.id c.key_at-key.result f.k =
+    record { inside = c.self.invariant; here = f.is; on = f.on; keyed = λ t. ap (λ z. (noted c.self.inside.noted.items z).key) f.slot ∙ c.key_at-key.ensures t; rows = c.leave.ensures.rows; pairs = c.leave.ensures.pairs } in
     ap (λ z. store_of z c.leave.new.clauses) (c.free.ensures ∙ ap (remove c.self.inside.pool) (sym f.slot)) ∙ store-cut _ _ _ _ _ _ _ _ _ _ h ∙ ap (λ m. remove m c.args.id) c.self.view_is
 
 pub returns-clause-active : goal.returns-clause-active

@@ -1,4 +1,4 @@
-use Rattle.std.proofs.Common.{◌≡◌, ◌≤◌, ℕ, ◌<◌, ◌*◌, length, sym, subst, ap, ◌∙◌}
+use Rattle.std.proofs.Common.{◌≤◌, length, sym, subst, ap, ◌∙◌}
 use Rattle.lits.specs.Literal.{var}
 use Rattle.hint_check.proofs.Lefts.{inside_var}
 use Rattle.hint_check.proofs.HintCheck.run.Goals as goal

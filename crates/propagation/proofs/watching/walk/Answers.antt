@@ -21,6 +21,11 @@ behind-at-requires c = walking_here c.args.watches.now c.loop-at.watches c.args.
 pub visit_watching-requires-clause-watched : goal.visit_watching-requires-clause-watched
 visit_watching-requires-clause-watched c = walking_here c.args.watches.now c.loop-at.watches c.args.trail.now c.loop-at.trail c.args.head c.neg-w.result c.in-Some.slot (subst (λ z. IsWalking c.args.watches.now c.loop-at.watches c.args.trail.now c.loop-at.trail c.args.head c.neg-w.result z) c.in-Some.is c.loop-at.invariant)
 
+pub visit_watching-requires-clause-falsified : goal.visit_watching-requires-clause-falsified
+visit_watching-requires-clause-falsified c =
+    let walking : IsWalking c.args.watches.now c.loop-at.watches c.args.trail.now c.loop-at.trail c.args.head c.neg-w.result (Some c.in-Some.slot) = subst (λ z. IsWalking c.args.watches.now c.loop-at.watches c.args.trail.now c.loop-at.trail c.args.head c.neg-w.result z) c.in-Some.is c.loop-at.invariant in
+    walking.falsified
+
 pub returns-then-visit_watching-clause-steps : goal.returns-then-visit_watching-clause-steps
 returns-then-visit_watching-clause-steps c =
     let walking : IsWalking c.args.watches.now c.loop-at.watches c.args.trail.now c.loop-at.trail c.args.head c.neg-w.result (Some c.in-Some.slot) = subst (λ z. IsWalking c.args.watches.now c.loop-at.watches c.args.trail.now c.loop-at.trail c.args.head c.neg-w.result z) c.in-Some.is c.loop-at.invariant in

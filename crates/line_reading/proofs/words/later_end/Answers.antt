@@ -3,7 +3,7 @@ use Rattle.slice_tokens.specs.Place.{present}
 use Rattle.slice_tokens.specs.Due.{due}
 use Rattle.slice_tokens.specs.Calls.{Answers, LeavesLines}
 use Rattle.line_reading.proofs.Opening.{told_from, ends_fault}
-use Rattle.line_reading.proofs.words.end_line.Goals as goal
+use Rattle.line_reading.proofs.words.later_end.Goals as goal
 
 pub returns-in-Err-clause-told : goal.returns-in-Err-clause-told
 returns-in-Err-clause-told g c =

@@ -3,7 +3,7 @@ use Rattle.slice_tokens.specs.Place.{present}
 use Rattle.slice_tokens.specs.Due.{due}
 use Rattle.slice_tokens.specs.Calls.{Answers, LeavesLines}
 use Rattle.line_reading.proofs.Opening.{told_from, reads_fault}
-use Rattle.line_reading.proofs.words.next_word.Goals as goal
+use Rattle.line_reading.proofs.words.whole_word.Goals as goal
 
 pub returns-in-Err-clause-told : goal.returns-in-Err-clause-told
 returns-in-Err-clause-told g c =
