@@ -1,5 +1,6 @@
 -- The index: pairs of a literal set's key and an id.
-use Rattle.std.specs.Prelude.{ℕ, min, ◌+◌, ◌*◌, ◌%◌, ◌^◌, Bool, false, nat_eq, ◌||◌, List, fold, Option, None, Some}
+use Rattle.std.specs.Prelude.{ℕ, min, ◌+◌, ◌*◌, ◌/◌, ◌%◌, ◌^◌, Bool, false, nat_eq, ◌||◌, List, Option, None, Some}
+use Rattle.std.specs.List.{sum_by}
 use Rattle.std.specs.Map.{lookup}
 use Rattle.clause_store.specs.declared.index.Pairs.{Pairs}
 use Rattle.std.specs.declared.cmp.Ordering.{Ordering}
@@ -27,13 +28,17 @@ first_of es key = lookup (nat_eq key) es
 abbrev pub has_pair : Pairs → ℕ → ℕ → Bool
 has_pair s key id = is_given (first_of s.first.entries key) id || in_more s.more key id
 
--- a key with one more literal mixed in
-unfoldable pub mixed : ℕ → ℕ → ℕ
-mixed key l = ((key * 6364136223846793005) % 2 ^ 64 + (l + 1)) % 2 ^ 64
+-- a number times one more than its upper half
+abbrev pub folded : ℕ → ℕ
+folded x = (x * (x / 2 ^ 32 + 1)) % 2 ^ 64
 
--- the key of a literal set
+-- a literal as a term of a key. Folded twice, since with one folding many small sets have one sum
+unfoldable pub scrambled : ℕ → ℕ
+scrambled l = folded (folded (((l + 1) * 6364136223846793005) % 2 ^ 64))
+
+-- the key of a literal set, for any list that has each of its literals once: a sum, whatever their order
 unfoldable pub key_of : List ℕ → ℕ
-key_of ls = fold mixed 0 ls
+key_of ls = sum_by scrambled ls % 2 ^ 64
 
 -- the lesser of two ids, of which each may be missing
 abbrev pub least_of : Option ℕ → Option ℕ → Option ℕ

@@ -3,7 +3,7 @@
 // key stand in an ordered set of pairs, together and in ascending order.
 
 ghost use Rattle.std.specs.Prelude.{◌≡◌, ℕ, ◌<◌, ◌≤◌, ◌&&◌, ◌||◌, not, nat_eq, length, Bool, true, false, IfSome, IfNone, OnOk, OnErr, IsTrue, ◌↔◌, Some};
-ghost use Rattle.clause_store.specs.Index.{has_pair, in_more, is_given, first_of, least_of, mixed, key_of};
+ghost use Rattle.clause_store.specs.Index.{has_pair, in_more, is_given, first_of, least_of, folded, scrambled, key_of};
 ghost use Rattle.clause_store.specs.Clauses.{IsOnce};
 ghost use Rattle.clause_store.specs.Rows.{ArePooled, literals_in};
 ghost use Rattle.lits.specs.Clause.{has, set_of};
@@ -25,22 +25,29 @@ pub(crate) struct Pairs {
 
 const FACTOR: u64 = 6364136223846793005;
 
-/// A key with one more literal mixed in.
-#[tactic(auto, unfolding(crate::specs::Index::mixed))]
-fn mix(key: u64, l: Lit) -> u64
-    ensures { result ≡ mixed key l }
+/// A number times one more than its upper half.
+fn fold(x: u64) -> u64
+    ensures { result ≡ folded x }
 {
-    key.wrapping_mul(FACTOR).wrapping_add(l.code() as u64 + 1)
+    x.wrapping_mul((x >> 32) + 1)
 }
 
-/// The key of a literal set, which is given by its ascending list.
-#[tactic(auto, unfolding(crate::specs::Index::key_of), using(std::proofs::lemmas::List::Sums::fold_more))]
+/// A literal as a term of a key. It is folded twice, since with one folding many small sets have one sum.
+#[tactic(auto, unfolding(crate::specs::Index::scrambled))]
+fn scramble(l: Lit) -> u64
+    ensures { result ≡ scrambled l }
+{
+    fold(fold((l.code() as u64 + 1).wrapping_mul(FACTOR)))
+}
+
+/// The key of a literal set, which is given by any list that has each of its literals once.
+#[tactic(auto, unfolding(crate::specs::Index::key_of), using(crate::proofs::Keys::key_more))]
 pub(crate) fn key_of(lits: &[Lit]) -> u64
     ensures { result ≡ key_of lits.now }
 {
-    let mut key = 0;
+    let mut key: u64 = 0;
     for l in lits {
-        key = mix(key, *l);
+        key = key.wrapping_add(scramble(*l));
     }
     key
 }

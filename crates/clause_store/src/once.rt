@@ -63,7 +63,7 @@ fn has_lit(lits: &[Lit], l: Lit) -> bool
 fn is_short(lits: &[Lit]) -> bool
     ensures { IsTrue result → IsOnce lits.now }
 {
-    if lits.len() > 8 {
+    if lits.len() > 16 {
         return false;
     }
     let mut at = lits.len();
@@ -76,8 +76,15 @@ fn is_short(lits: &[Lit]) -> bool
     true
 }
 
+/// The key of the set whose literals are listed once, where one is asked for.
+fn key_if(keyed: bool, lits: &[Lit]) -> u64
+    ensures { IsTrue keyed → result ≡ key_of lits.now }
+{
+    if keyed { index::key_of(lits) } else { 0 }
+}
+
 /// Puts a list into the pool, each literal at its first place, and tells the key of its set where it is asked for. A short
-/// list without repeats is put as it is where no key is wanted.
+/// list without repeats is put as it is, with no set made of it.
 pub(crate) fn put(
     alloc: Global,
     pool: &mut Pool,
@@ -89,12 +96,13 @@ pub(crate) fn put(
     ensures key { IfOk result (λ p. IsTrue keyed → p.key ≡ key_of (set_of lits.now)) }
     ensures err { OnErr result (pool.new ≡ pool.old) }
 {
-    if !keyed && is_short(lits) {
+    if is_short(lits) {
         let slot = pool.add(lits)?;
-        return Ok(Pooled { slot, key: 0 });
+        let key = key_if(keyed, lits);
+        return Ok(Pooled { slot, key });
     }
     let set = LitSet::of(alloc, lits)?;
-    let key = index::key_of(set.as_slice());
+    let key = key_if(keyed, set.as_slice());
     let slot = add_once(alloc, pool, set.len(), lits)?;
     Ok(Pooled { slot, key })
 }

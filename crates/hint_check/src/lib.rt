@@ -141,7 +141,7 @@ fn rest_of_two(marks: &[u32], mark: u32, x: Lit, y: Lit) -> Left
     Left::Open
 }
 
-/// What is left of the clause at a slot. The two literals of a list of two stand beside the list.
+/// What is left of the clause at a slot. A list of two is judged without a loop.
 fn rest_at(marks: &[u32], mark: u32, store: &Store, slot: Slot) -> Left
     requires slot { IsSlot store.now slot }
     requires within { (id l : ℕ) → slot_at store.now id ≡ Some slot → Contains (lits_at store.now id) l → neg l < length marks.now }

@@ -75,7 +75,6 @@ pub fn next_word<S: Source, K: WordKind>(
 
 // The same for a word that no space stands before.
 #[inline(always)]
-#[inline(always)]
 pub(crate) fn first_word<S: Source, K: WordKind>(
     window: &mut Window,
     src: &mut S,

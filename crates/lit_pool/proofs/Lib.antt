@@ -1,4 +1,5 @@
-pub mod Lists
+pub mod PiecesMap
+pub mod Placed
 pub mod Raw
-pub mod RowsMap
 pub mod Slots
+pub mod WordLists

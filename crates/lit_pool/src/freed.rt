@@ -1,13 +1,15 @@
-//! The sizes of blocks, and the rows that were freed. Rows of one size are listed one after another: the first link of each
-//! is the row that was freed before it. The pool tests each row that a list gives, so nothing need be known of the lists.
-ghost use Rattle.std.specs.Prelude.{◌^◌, ◌<◌, ◌≤◌};
+//! The sizes of pieces, and the pieces that were freed. Those of one size are listed one after another: the first link of
+//! each is the one that was freed before it. The pool tests each piece that a list gives, so nothing need be known of the
+//! lists.
+ghost use Rattle.std.specs.Prelude.{◌+◌, ◌*◌, ◌≤◌};
+ghost use Rattle.lit_pool.specs.Pieces.{most_literals};
 
 use crate::Slot;
 
-// The greatest block that a list keeps has room for more literals than a row counts.
-const SIZES: usize = 41;
+// How many sizes there are; the greatest is that of the longest list.
+const SIZES: usize = 32;
 
-/// The row that was freed last, for each size.
+/// The piece that was freed last, for each size.
 #[derive(Drop)]
 pub(crate) struct Freed {
     last: [Option<Slot>; SIZES],
@@ -20,7 +22,7 @@ impl Freed {
         }
     }
 
-    /// The row of this size that was freed last.
+    /// The piece of this size that was freed last.
     pub(crate) fn last(&self, size: usize) -> Option<Slot> {
         if size < SIZES { self.last[size] } else { None }
     }
@@ -32,17 +34,18 @@ impl Freed {
     }
 }
 
-/// The least size of a block that has places for so many literals, and how many it has: 6, 10, 14 and so on up to 62, and
-/// then twice as many and two more each time. With a word of its own, an allocator fills whole units of 16 bytes by each.
+/// The least size of a piece that has places for so many literals behind its head, and how many units it has: 1, 2, 3 and so
+/// on up to 8, and then twice as many each time.
 pub(crate) fn size_for(count: usize) -> (usize, usize)
-    requires { count < 2 ^ 32 }
-    ensures { count ≤ result.1 }
+    requires { count ≤ most_literals }
+    ensures room { count + 4 ≤ 8 * result.1 }
+    ensures limit { result.1 ≤ 4000001 }
 {
     let mut size = 0;
-    let mut room = 6;
-    while room < count {
-        room += if room < 62 { 4 } else { room + 2 };
+    let mut units = 1;
+    while 8 * units < count + 4 {
+        units += if units < 8 { 1 } else { units };
         size += 1;
     }
-    (size, room)
+    (size, units)
 }

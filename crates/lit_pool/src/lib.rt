@@ -1,24 +1,32 @@
 //! Lists of literals with two links each, named by slots. A clause store keeps its clauses in one pool, and propagation
 //! threads its watch chains through the links. Contracts see a finite map from each live slot to its entry, so each call
 //! says in one equation what becomes of one entry and that all others stay.
+//!
+//! All entries lie in one table of words in raw memory, and a slot says where its entry begins there.
 #![tactic(auto)]
 
-ghost use Rattle.std.specs.Prelude.{◌≡◌, ◌+◌, ◌*◌, ◌^◌, ◌<◌, ◌≤◌, [], ◌∷◌, length, swap, slice_index, IfOk, IfSome, IfNone, OnErr, IsTrue, ◌↔◌, Some, None};
+ghost use Rattle.std.specs.Prelude.{◌≡◌, ◌+◌, ◌*◌, ◌^◌, ◌<◌, ◌≤◌, [], ◌∷◌, length, swap, slice_index, IfOk, IfSome, IfNone, OnErr, IsTrue, ◌↔◌, Some, None, true, false};
 ghost use Rattle.std.specs.FinMap as map;
 ghost use Rattle.lit_pool.specs.Entry.{IsLive, lits_at, link_at, new_entry, with_swap, with_link};
+ghost use Rattle.lit_pool.specs.Limit.{slots_end};
+ghost use Rattle.lit_pool.specs.Pieces.{most_literals};
 
 mod block;
 mod freed;
+mod kind;
+mod piece;
+mod pieces;
 #[cfg(test)]
 mod plain;
-mod row;
 #[cfg(test)]
 #[tactic(auto, using(crate::proofs::Slots::slot_steps))]
 mod tests;
+mod words;
 
 use crate::freed::{Freed, size_for};
-use crate::row::Row;
-use lits::Lit;
+use crate::kind::Kind;
+use crate::words::Words;
+use lits::{Lit, MAX_VAR};
 use std::alloc::{AllocError, Global};
 use std::marker::Model;
 
@@ -29,17 +37,27 @@ pub struct Slot {
 }
 
 impl Model for Slot {
-    ghost use Rattle.std.specs.Prelude.{ℕ};
+    ghost use Rattle.std.specs.Prelude.{ℕ, ◌<◌};
+    ghost use Rattle.lit_pool.specs.Limit.{slots_end};
 
     ghost Value = { ℕ };
 
     ghost view = { λ s. s.number };
 
+    ghost invariant = { λ s. s.number < slots_end };
+
     ghost inverse = { λ n. record { number = n } };
 }
 
+/// Each slot is below this number.
+const SLOTS_END: u32 = 2 * MAX_VAR - 1;
+
+/// No entry has more literals.
+const MOST_LITERALS: usize = 16_000_000;
+
 impl Slot {
     /// The slot as a number.
+    #[inline(always)]
     pub fn number(self) -> u64
         ensures { result ≡ self }
     {
@@ -57,13 +75,13 @@ pub enum Which {
 /// The entries. Contracts see the map from each live slot to its entry.
 #[derive(Drop)]
 pub struct Pool {
-    rows: Vec<Row>,
+    words: Words,
+    kinds: Vec<Kind>,
     freed: Freed,
     live: u64,
 }
 
 impl Model for Pool {
-    ghost use Rattle.std.specs.Prelude.{◌≡◌};
     ghost use Rattle.std.specs.Ordering.{nat_cmp};
     ghost use Rattle.std.specs.FinMap as map;
     ghost use Rattle.std.specs.Coded.{coded_ℕ};
@@ -73,11 +91,11 @@ impl Model for Pool {
 
     ghost coded = { map.code coded_ℕ entry_code };
 
-    ghost use Rattle.lit_pool.specs.Rows.{live_rows};
+    ghost use Rattle.lit_pool.specs.Pieces.{live_pieces, IsPool};
 
-    ghost view = { λ p. live_rows p.rows.items };
+    ghost view = { λ p. live_pieces p.words p.kinds.items };
 
-    ghost invariant = { λ p. p.live ≡ map.len (live_rows p.rows.items) };
+    ghost invariant = { λ p. IsPool p.words p.kinds.items p.live };
 }
 
 impl Pool {
@@ -86,7 +104,8 @@ impl Pool {
         ensures { result ≡ map.empty }
     {
         Pool {
-            rows: Vec::new(alloc),
+            words: Words::new(alloc),
+            kinds: Vec::new(alloc),
             freed: Freed::new(),
             live: 0,
         }
@@ -103,72 +122,72 @@ impl Pool {
     pub fn is_live(&self, s: Slot) -> bool
         ensures { IsTrue result ↔ IsLive self.now s }
     {
-        let at = s.number as usize;
-        if at >= self.rows.len() {
-            return false;
-        }
-        self.rows[at].is_live()
+        pieces::is_live(&self.kinds, s)
     }
 
     /// Adds an entry of these literals, in their order, with no links, at a slot that wasn't live. Where memory is
     /// wanting the pool stays as it was.
-    #[inline(always)]
     pub fn add(&mut self, lits: &[Lit]) -> Result<Slot, AllocError>
         ensures fresh { IfOk result (λ s. map.get self.old s ≡ None) }
         ensures ok { IfOk result (λ s. self.new ≡ map.insert self.old s (new_entry lits.now)) }
         ensures err { OnErr result (self.new ≡ self.old) }
     {
-        if lits.len() > u32::MAX as usize {
+        if lits.len() > MOST_LITERALS {
             return Err(AllocError);
         }
-        let (size, room) = size_for(lits.len());
+        let (size, units) = size_for(lits.len());
         match self.reuse(size, lits) {
             Some(s) => Ok(s),
-            None => self.push(room, lits),
+            None => self.push(units, lits),
         }
     }
 
     /// The literals of a live entry in their order.
+    #[inline(always)]
     pub fn lits(&self, s: Slot) -> &[Lit]
         requires live { IsLive self.now s }
         ensures { result.now ≡ lits_at self.now s }
     {
-        self.rows[s.number as usize].lits()
+        piece::lits(&self.words, s)
     }
 
     /// The first two literals of a live entry, which has two or more.
+    #[inline(always)]
     pub fn pair(&self, s: Slot) -> (Lit, Lit)
         requires live { IsLive self.now s }
         requires two { 2 ≤ length (lits_at self.now s) }
         ensures { (result.0 ≡ slice_index (lits_at self.now s) 0) × (result.1 ≡ slice_index (lits_at self.now s) 1) }
     {
-        self.rows[s.number as usize].pair()
+        piece::pair(&self.words, s)
     }
 
     /// Exchanges two places of a live entry's list, counted from 0. All else stays.
+    #[inline(always)]
     pub fn swap(&mut self, s: Slot, a: usize, b: usize)
         requires live { IsLive self.old s }
         requires a_in_bounds { a < length (lits_at self.old s) }
         requires b_in_bounds { b < length (lits_at self.old s) }
         ensures { self.new ≡ with_swap self.old s a b }
     {
-        self.rows[s.number as usize].swap(a, b);
+        piece::swap(&mut self.words, s, a, b);
     }
 
     /// One of a live entry's links.
+    #[inline(always)]
     pub fn link(&self, s: Slot, which: Which) -> Option<Slot>
         requires live { IsLive self.now s }
         ensures { result ≡ link_at self.now s which }
     {
-        self.rows[s.number as usize].link(which)
+        piece::link(&self.words, s, which)
     }
 
     /// Sets one of a live entry's links, to any slot or to none. All else stays.
+    #[inline(always)]
     pub fn set_link(&mut self, s: Slot, which: Which, to: Option<Slot>)
         requires live { IsLive self.old s }
         ensures { self.new ≡ with_link self.old s which to }
     {
-        self.rows[s.number as usize].set_link(which, to);
+        piece::set_link(&mut self.words, s, which, to);
     }
 
     /// Takes a live entry out. Its slot may be handed out again.
@@ -176,55 +195,44 @@ impl Pool {
         requires live { IsLive self.old s }
         ensures { self.new ≡ map.remove self.old s }
     {
-        let at = s.number as usize;
-        let (size, _) = size_for(self.rows[at].len());
-        let next = self.freed.last(size);
-        self.rows[at].clear(next);
+        let (size, _) = size_for(piece::len(&self.words, s));
+        pieces::vacate(&mut self.words, &mut self.kinds, s, self.freed.last(size));
         self.freed.set_last(size, Some(s));
         self.live -= 1;
     }
 
-    /// Puts an entry into the row that was freed last among those of this size. There may be none.
-    #[inline(always)]
+    /// Puts an entry into the piece that was freed last among those of this size. There may be none.
     fn reuse(&mut self, size: usize, lits: &[Lit]) -> Option<Slot>
+        requires { length lits.now ≤ most_literals }
         ensures fresh { IfSome result (λ s. map.get self.old s ≡ None) }
         ensures some { IfSome result (λ s. self.new ≡ map.insert self.old s (new_entry lits.now)) }
         ensures none { IfNone result (self.new ≡ self.old) }
     {
-        let s = match self.freed.last(size) {
-            Some(s) => s,
-            None => return None,
+        let Some(s) = self.freed.last(size) else {
+            return None;
         };
-        let at = s.number as usize;
-        if at >= self.rows.len() {
+        if !pieces::has_room(&self.words, &self.kinds, s, lits.len()) {
             return None;
         }
-        if self.rows[at].is_live() || !self.rows[at].has_room(lits.len()) {
-            return None;
-        }
-        let next = self.rows[at].link(Which::One);
-        self.rows[at].fill(lits);
+        let next = piece::link(&self.words, s, Which::One);
+        pieces::occupy(&mut self.words, &mut self.kinds, s, lits);
         self.freed.set_last(size, next);
         self.live += 1;
         Some(s)
     }
 
-    /// Puts an entry into a row after the others, in a block for `room` literals.
-    #[inline(always)]
-    fn push(&mut self, room: usize, lits: &[Lit]) -> Result<Slot, AllocError>
-        requires { length lits.now ≤ room }
+    /// Puts an entry into a new piece of so many units behind the others.
+    fn push(&mut self, units: usize, lits: &[Lit]) -> Result<Slot, AllocError>
+        requires few { length lits.now ≤ most_literals }
+        requires room { length lits.now + 4 ≤ 8 * units }
+        requires limit { units ≤ 4000001 }
         ensures fresh { IfOk result (λ s. map.get self.old s ≡ None) }
         ensures ok { IfOk result (λ s. self.new ≡ map.insert self.old s (new_entry lits.now)) }
         ensures err { OnErr result (self.new ≡ self.old) }
     {
-        let end = self.rows.len();
-        if end > u32::MAX as usize {
-            return Err(AllocError);
-        }
-        let alloc = *self.rows.allocator();
-        let row = Row::new(alloc, room, lits)?;
-        self.rows.push(row)?;
+        let s = pieces::append(&mut self.words, &mut self.kinds, units)?;
+        pieces::occupy(&mut self.words, &mut self.kinds, s, lits);
         self.live += 1;
-        Ok(Slot { number: end as u32 })
+        Ok(s)
     }
 }

@@ -74,7 +74,7 @@ fn entries_of_all_lengths_are_freed_in_another_order(rt: HostRuntime) -> Result<
 }
 
 #[test]
-fn a_freed_row_serves_a_later_entry(rt: HostRuntime) -> Result<(), Fail> {
+fn a_freed_piece_serves_a_later_entry(rt: HostRuntime) -> Result<(), Fail> {
     let alloc = rt.alloc();
     let mut pool = Pool::new(alloc);
     let a = pool.add(&many(alloc, 3)?)?;
@@ -85,11 +85,12 @@ fn a_freed_row_serves_a_later_entry(rt: HostRuntime) -> Result<(), Fail> {
     pool.free(b);
     let c = pool.add(&many(alloc, 900)?)?;
     assert_eq!(rt; c, b);
-    let d = pool.add(&many(alloc, 5)?)?;
+    let d = pool.add(&many(alloc, 4)?)?;
     assert_eq!(rt; d, a);
     assert_eq!(rt; pool.link(d, Which::One), None);
-    assert_eq!(rt; pool.lits(d).len(), 5);
-    assert_eq!(rt; pool.rows.len(), 2);
+    assert_eq!(rt; pool.lits(d).len(), 4);
+    // one unit for a list of at most 4 literals, and 128 for one of 509 to 1,020
+    assert_eq!(rt; pool.kinds.len(), 129);
     Ok(())
 }
 

@@ -71,6 +71,15 @@ impl Lit {
         if self.positive() { var } else { -var }
     }
 
+    /// The literal of a code.
+    #[inline(always)]
+    pub fn from_code(code: u32) -> Lit
+        requires { IsLiteral code }
+        ensures { result ≡ code }
+    {
+        Lit { code }
+    }
+
     /// Its negation.
     pub fn neg(self) -> Lit
         ensures negation { result ≡ neg self }

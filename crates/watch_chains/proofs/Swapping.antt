@@ -1,5 +1,5 @@
 -- A clause's list with two places exchanged, and the first two turned with the links.
-use Rattle.std.proofs.Common.{◌≡◌, ◌≢◌, ℕ, ◌*◌, ◌<◌, ◌≤◌, List, [], length, Option, Some, None, refl, sym, ap, ◌∙◌, subst, inl, inr, arith, cond, true, false, Bool, nat_eq, ◌||◌, ◌&&◌, eqb-true, eq-eqb, get_or-set_other, get_or-set_same}
+use Rattle.std.proofs.Common.{◌≡◌, ◌≢◌, ℕ, ◌*◌, ◌<◌, ◌≤◌, List, [], ◌∷◌, length, Option, Some, None, refl, sym, ap, ◌∙◌, subst, inl, inr, arith, cond, true, false, Bool, nat_eq, ◌||◌, ◌&&◌, eqb-true, eq-eqb, get_or-set_other, get_or-set_same}
 use Rattle.std.specs.Prelude.{slice_index, option_map, option_and_then, unwrap_or, nat_le}
 use Rattle.std.specs.List.{swap}
 use Rattle.std.proofs.Math.ListN.{length-set}
@@ -115,7 +115,7 @@ turned_watch ls l big =
     ∙ ap (λ b. nat_le 2 (length ls) && b) (or_flip (nat_eq (slice_index ls 1) l) (nat_eq (slice_index ls 0) l))
 
 turned_backs_of : Backs → Backs
-turned_backs_of b = record { one = b.two; two = b.one }
+turned_backs_of b = record { both = back_by Two b ∷ back_by One b ∷ [] }
 
 turned_place : Place → Place
 turned_place p = record { slot = p.slot; lits = swap p.lits 0 1; one = p.two; two = p.one }

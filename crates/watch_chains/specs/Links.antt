@@ -59,7 +59,7 @@ abbrev pub with_next : Store → ℕ → ℕ → Option ℕ → Store
 with_next m l s to = with_link m (id_at m s) (which_in m l s) to
 
 abbrev pub no_backs : Backs
-no_backs = record { one = 0; two = 0 }
+no_backs = record { both = 0 ∷ 0 ∷ [] }
 
 -- a way back as the table keeps it at a slot: the slot's own number where there is none
 abbrev pub packed : ℕ → Option ℕ → ℕ
@@ -69,13 +69,17 @@ packed s (Some t) = t
 abbrev pub unpacked : ℕ → ℕ → Option ℕ
 unpacked s t = if nat_eq t s then None else Some t
 
+-- the place of the way back in the chain of this link
+abbrev pub index_by : Which → ℕ
+index_by One = 0
+index_by Two = 1
+
 abbrev pub back_by : Which → Backs → ℕ
-back_by One b = b.one
-back_by Two b = b.two
+back_by w b = slice_index_or b.both (index_by w) 0
 
 abbrev pub with_back_by : Which → ℕ → Backs → Backs
-with_back_by One to b = record { one = to; two = b.two }
-with_back_by Two to b = record { one = b.one; two = to }
+with_back_by One to b = record { both = to ∷ back_by Two b ∷ [] }
+with_back_by Two to b = record { both = back_by One b ∷ to ∷ [] }
 
 abbrev pub backs_at : List Backs → ℕ → Backs
 backs_at backs s = slice_index_or backs s no_backs
@@ -136,7 +140,7 @@ turned_store m s =
 
 -- the ways back of a slot exchanged
 abbrev pub turned_backs : List Backs → ℕ → List Backs
-turned_backs backs s = slice_set backs s (record { one = (backs_at backs s).two; two = (backs_at backs s).one })
+turned_backs backs s = slice_set backs s (record { both = back_by Two (backs_at backs s) ∷ back_by One (backs_at backs s) ∷ [] })
 
 -- chains by literal, with a slot taken out of the one and put in front of the other
 abbrev pub moved_by : (ℕ → List ℕ) → List ℕ → ℕ → ℕ → ℕ → List ℕ

@@ -8,17 +8,17 @@ ghost use Rattle.std.specs.Prelude.{nat_lt, ◌≡◌, ℕ, ◌<◌, List, lengt
 ghost use Rattle.lit_pool.specs.declared.Which.TheVariants.{Two};
 ghost use Rattle.watch_chains.specs.Chains.{AreWatches};
 ghost use Rattle.watch_chains.specs.Links as ways;
-ghost use Rattle.watch_chains.specs.Links.{IsMember, AreChained, CanEnter, CanLeave, CanMove, CanPart, lits_of, id_at, backs_at, ends_in, turned_store, turned_backs, moved_by, entered_by, left_by, unlinked, which_in, next_in, with_next, back_in, with_back, head_at, fronted_backs, joined_store, joined_backs, joined_heads};
+ghost use Rattle.watch_chains.specs.Links.{IsMember, AreChained, CanEnter, CanLeave, CanMove, CanPart, lits_of, id_at, backs_at, ends_in, turned_store, turned_backs, moved_by, entered_by, left_by, unlinked, which_in, next_in, with_next, index_by, back_in, with_back, head_at, fronted_backs, joined_store, joined_backs, joined_heads};
 
 use clause_store::{Slot, Store, Which};
 use lits::Lit;
 use std::alloc::AllocError;
 
-/// The slots before a clause in its two chains; the clause's own slot where there is none.
+/// The slots before a clause in its two chains; the clause's own slot where there is none. They lie in an array, so that the
+/// one of a literal's chain is found by its index, without a branch.
 #[derive(Clone, Copy)]
 pub(crate) struct Backs {
-    one: Slot,
-    two: Slot,
+    both: [Slot; 2],
 }
 
 /// What stands on both sides of a clause in a literal's chain.
@@ -72,7 +72,7 @@ pub(crate) fn grow(backs: &mut Vec<Backs>, s: Slot) -> Result<(), AllocError>
         return Err(AllocError);
     };
     if backs.len() < end {
-        let nothing = Backs { one: s, two: s };
+        let nothing = Backs { both: [s; 2] };
         backs.resize(end, nothing)?;
     }
     Ok(())
@@ -85,6 +85,15 @@ fn which_of(store: &Store, l: Lit, s: Slot) -> Which
 {
     let (first, _) = store.pair(s);
     if first == l { Which::One } else { Which::Two }
+}
+
+/// The place of a member's way back in a literal's chain: 0 beside link One, 1 beside link Two.
+fn index_of(store: &Store, l: Lit, s: Slot) -> usize
+    requires { IsMember store.now l s }
+    ensures { result ≡ index_by (which_in store.now l s) }
+{
+    let (first, _) = store.pair(s);
+    if first == l { 0 } else { 1 }
 }
 
 /// The other literal that a member of a literal's chain watches.
@@ -119,11 +128,8 @@ fn back_of(store: &Store, backs: &Vec<Backs>, l: Lit, s: Slot) -> Option<Slot>
     requires room { s < length backs.now.items }
     ensures { result ≡ back_in store.now backs.now.items l s }
 {
-    let both = backs[s.number() as usize];
-    match which_of(store, l, s) {
-        Which::One => unpacked(s, both.one),
-        Which::Two => unpacked(s, both.two),
-    }
+    let index = index_of(store, l, s);
+    unpacked(s, backs[s.number() as usize].both[index])
 }
 
 /// Sets the slot before a member of a literal's chain.
@@ -133,10 +139,8 @@ fn set_back(store: &Store, backs: &mut Vec<Backs>, l: Lit, s: Slot, to: Option<S
     ensures { backs.new.items ≡ with_back store.now backs.old.items l s to }
 {
     let at = s.number() as usize;
-    match which_of(store, l, s) {
-        Which::One => backs[at].one = packed(s, to),
-        Which::Two => backs[at].two = packed(s, to),
-    }
+    let index = index_of(store, l, s);
+    backs[at].both[index] = packed(s, to);
 }
 
 /// What stands on both sides of a member in a literal's chain.
@@ -162,7 +166,7 @@ fn second_ends(store: &Store, backs: &Vec<Backs>, l: Lit, s: Slot) -> Ends
     Ends {
         lit: l,
         next: store.link(s, Which::Two),
-        back: unpacked(s, backs[s.number() as usize].two),
+        back: unpacked(s, backs[s.number() as usize].both[1]),
     }
 }
 
@@ -211,7 +215,7 @@ fn front_second(
 {
     let at = l.code() as usize;
     let head = heads[at];
-    backs[s.number() as usize].two = s;
+    backs[s.number() as usize].both[1] = s;
     if let Some(behind) = head {
         set_back(store, backs, l, behind, Some(s));
     }
@@ -313,11 +317,8 @@ pub(crate) fn turn(store: &mut Store, backs: &mut Vec<Backs>, s: Slot)
     store.set_link(s, Which::Two, one);
     store.swap(s, 0, 1);
     let at = s.number() as usize;
-    let both = backs[at];
-    backs[at] = Backs {
-        one: both.two,
-        two: both.one,
-    };
+    let [one, two] = backs[at].both;
+    backs[at].both = [two, one];
 }
 
 /// Exchanges the second literal of a clause's list for a later one, and puts the clause from the chain of the one in front

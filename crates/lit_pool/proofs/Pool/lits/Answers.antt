@@ -1,9 +1,9 @@
-use Rattle.std.proofs.Common.{ap, ◌∙◌, arith}
-use Rattle.lit_pool.proofs.RowsMap.{found}
+use Rattle.std.proofs.Common.{ap, ◌∙◌}
+use Rattle.lit_pool.proofs.PiecesMap.{found}
 use Rattle.lit_pool.proofs.Pool.lits.Goals as goal
 
-pub index-requires : goal.index-requires
-index-requires c = let f = found _ _ _ _ c.self.view_is c.s.view_is c.requires.live in omega (arith, f.within)
+pub lits-requires : goal.lits-requires
+lits-requires c = let f = found _ _ _ _ c.self.view_is c.self.invariant.pieces c.requires.live in f.lits_in
 
 pub returns : goal.returns
-returns c = let f = found _ _ _ _ c.self.view_is c.s.view_is c.requires.live in c.lits.ensures ∙ ap (λ e. e.lits) (f.read _ c.index.ensures).1
+returns c = let f = found _ _ _ _ c.self.view_is c.self.invariant.pieces c.requires.live in c.lits.ensures ∙ ap (λ e. e.lits) f.read

@@ -1,12 +1,8 @@
-use Rattle.std.proofs.Common.{sym, refl}
-use Rattle.std.specs.Ordering.{nat_cmp}
-use Rattle.std.specs.FinMap.{len-empty}
-use Rattle.lit_pool.specs.Entry.{Entry}
-use Rattle.lit_pool.proofs.RowsMap.{live_rows-nil}
+use Rattle.lit_pool.proofs.PiecesMap.{live_nil, nil_pool}
 use Rattle.lit_pool.proofs.Pool.new.Goals as goal
 
 pub invariant_of-result : goal.invariant_of-result
-invariant_of-result c = rw (c.new.ensures.items, live_rows-nil) (sym (len-empty nat_cmp Entry))
+invariant_of-result c = rw (c.new.ensures, c.new-2.ensures.items) nil_pool
 
 pub returns : goal.returns
-returns c = rw (c.new.ensures.items, live_rows-nil) refl
+returns c = rw (c.new.ensures, c.new-2.ensures.items) live_nil

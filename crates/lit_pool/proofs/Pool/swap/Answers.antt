@@ -1,30 +1,31 @@
-use Rattle.std.proofs.Common.{length, swap, refl, ap, ◌∙◌, arith}
+use Rattle.std.proofs.Common.{◌≡◌, ℕ, List, length, swap, sym, ap, ◌∙◌, arith}
+use Rattle.std.proofs.lemmas.List.Edits.{length-swap}
 use Rattle.std.specs.FinMap.{len}
 use Rattle.lit_pool.specs.Entry.{Entry, entry_at}
-use Rattle.lit_pool.proofs.RowsMap.{found, len_replaced}
+use Rattle.lit_pool.proofs.PiecesMap.{found, len_replaced}
 use Rattle.lit_pool.proofs.Pool.swap.Goals as goal
 
-pub index_mut-requires : goal.index_mut-requires
-index_mut-requires c = let f = found _ _ _ _ c.self.view_is c.s.view_is c.requires.live in omega (arith, f.within)
+abbrev swapped : Entry → ℕ → ℕ → Entry
+swapped e a b = record { lits = swap e.lits a b; one = e.one; two = e.two }
+
+pub swap-requires-clause-within : goal.swap-requires-clause-within
+swap-requires-clause-within c = let f = found _ _ _ _ c.self.view_is c.self.invariant.pieces c.requires.live in f.room
+
+pub swap-requires-clause-fits : goal.swap-requires-clause-fits
+swap-requires-clause-fits c = let f = found _ _ _ _ c.self.view_is c.self.invariant.pieces c.requires.live in f.fits
 
 pub swap-requires-clause-a_in_bounds : goal.swap-requires-clause-a_in_bounds
-swap-requires-clause-a_in_bounds c = let f = found _ _ _ _ c.self.view_is c.s.view_is c.requires.live in
-    let long = ap (λ e. length e.lits) (f.read _ c.index_mut.ensures.value).1 in omega (arith, long, c.requires.a_in_bounds)
+swap-requires-clause-a_in_bounds c = let f = found _ _ _ _ c.self.view_is c.self.invariant.pieces c.requires.live in omega (arith, f.len, c.requires.a_in_bounds)
 
 pub swap-requires-clause-b_in_bounds : goal.swap-requires-clause-b_in_bounds
-swap-requires-clause-b_in_bounds c = let f = found _ _ _ _ c.self.view_is c.s.view_is c.requires.live in
-    let long = ap (λ e. length e.lits) (f.read _ c.index_mut.ensures.value).1 in omega (arith, long, c.requires.b_in_bounds)
+swap-requires-clause-b_in_bounds c = let f = found _ _ _ _ c.self.view_is c.self.invariant.pieces c.requires.live in omega (arith, f.len, c.requires.b_in_bounds)
 
 pub invariant_of-self : goal.invariant_of-self
-invariant_of-self c = let f = found _ _ _ _ c.self.view_is c.s.view_is c.requires.live in let was = f.read _ c.index_mut.ensures.value in
-    rw (f.written c.swap.new.self _ (c.swap.ensures.live ∙ was.0) refl, len_replaced _ _ _ f.live) (c.self.invariant ∙ ap len c.self.view_is)
+invariant_of-self c = let f = found _ _ _ _ c.self.view_is c.self.invariant.pieces c.requires.live in
+    let w = f.written _ _ c.swap.ensures.within (c.swap.ensures.entry ∙ ap (λ e. swapped e c.args.a c.args.b) f.read) (length-swap (entry_at c.args.self.now c.args.s).lits c.args.a c.args.b ∙ sym f.len) in
+    record { pieces = w.1; counted = c.self.invariant.counted ∙ ap len c.self.view_is ∙ sym (len_replaced _ _ _ f.held) ∙ ap len (sym w.0) }
 
 pub returns : goal.returns
-returns c = let f = found _ _ _ _ c.self.view_is c.s.view_is c.requires.live in let was = f.read _ c.index_mut.ensures.value in
-    let e : Entry = entry_at c.args.self.now c.args.s in
-    f.written c.swap.new.self (record { lits = swap e.lits c.args.a c.args.b; one = e.one; two = e.two }) (c.swap.ensures.live ∙ was.0)
-    (λ i. record {
-      lits = (c.swap.ensures.lits ∙ ap (λ x. swap x.lits c.args.a c.args.b) was.1) i;
-      one = (c.swap.ensures.links.0 ∙ ap (λ x. x.one) was.1) i;
-      two = (c.swap.ensures.links.1 ∙ ap (λ x. x.two) was.1) i;
-    })
+returns c = let f = found _ _ _ _ c.self.view_is c.self.invariant.pieces c.requires.live in
+    let w = f.written _ _ c.swap.ensures.within (c.swap.ensures.entry ∙ ap (λ e. swapped e c.args.a c.args.b) f.read) (length-swap (entry_at c.args.self.now c.args.s).lits c.args.a c.args.b ∙ sym f.len) in
+    w.0

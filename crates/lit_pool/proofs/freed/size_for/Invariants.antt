@@ -1,8 +1,9 @@
-use Rattle.std.proofs.Common.{◌-◌, ◌^◌, ◌<◌, ◌≤◌}
+use Rattle.std.proofs.Common.{◌-◌, ◌*◌, ◌+◌, ◌≤◌}
 use Rattle.lit_pool.proofs.freed.size_for.Given as goal
 
-abbrev pub invariant-loop-room : goal.invariant-loop-room
-invariant-loop-room l = (l.room < 2 ^ 34) × (l.size ≤ l.room)
+-- the units before the last step were too few
+abbrev pub invariant-loop-units : goal.invariant-loop-units
+invariant-loop-units l = (1 ≤ l.units) × (l.units ≤ 4000001) × (l.size ≤ l.units)
 
-abbrev pub decreases-loop-room : goal.decreases-loop-room
-decreases-loop-room l = l.count - l.room
+abbrev pub decreases-loop-units : goal.decreases-loop-units
+decreases-loop-units l = l.count + 4 - 8 * l.units
