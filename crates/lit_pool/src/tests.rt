@@ -202,6 +202,7 @@ fn the_pool_does_what_a_plain_list_does(rt: HostRuntime) -> Result<(), Fail> {
         assert!(rt; are_alike(&pool, &plain, &entries));
     }
     assert!(rt; entries.len() > 10);
-    assert!(rt; pool.rows.len() < 400);
+    // some 750 entries were added, of about 7 units in the middle: without those that were freed there would be over 5,000
+    assert!(rt; pool.kinds.len() < 3500);
     Ok(())
 }
