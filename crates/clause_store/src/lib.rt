@@ -277,6 +277,15 @@ impl Store {
         self.pool.lits(s)
     }
 
+    /// The literal at a place of the list of the active clause at this slot, counted from 0.
+    pub fn at(&self, s: Slot, i: usize) -> Lit
+        requires slot { IsSlot self.now s }
+        requires within { (id : ℕ) → slot_at self.now id ≡ Some s → i < length (lits_at self.now id) }
+        ensures { (id : ℕ) → slot_at self.now id ≡ Some s → result ≡ slice_index (lits_at self.now id) i }
+    {
+        self.pool.at(s, i)
+    }
+
     /// The first two literals of the list of the active clause at this slot, which has two or more.
     pub fn pair(&self, s: Slot) -> (Lit, Lit)
         requires { (id : ℕ) × (slot_at self.now id ≡ Some s) × (2 ≤ length (lits_at self.now id)) }

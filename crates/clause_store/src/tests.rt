@@ -167,6 +167,7 @@ fn lists_and_links_are_changed_at_a_slot(rt: HostRuntime) -> Result<(), Fail> {
         if store.lits(slot).len() < 3 {
             return Err(Fail::from("too short"));
         }
+        assert_eq!(rt; store.at(slot, 2), lit(3));
         store.swap(slot, 0, 2);
     }
     if let Some(slot) = store.find(8) {

@@ -1,7 +1,7 @@
 -- How the words and the kinds of their units give the map. Words lie in units of 8. A piece is a run of units: its head has
 -- the number of places for literals, the number of literals and the two links, and the literals follow. A slot is the number
 -- of a piece's first unit.
-use Rattle.std.specs.Prelude.{◌≡◌, ℕ, zero, suc, ◌+◌, ◌*◌, ◌-◌, ◌<◌, ◌≤◌, ◌⊎◌, Bool, true, false, nat_eq, if◌then◌else◌, cond, List, [], ◌∷◌, length, slice_index_or, Option, Some, None}
+use Rattle.std.specs.Prelude.{◌≡◌, ℕ, zero, suc, ◌+◌, ◌*◌, ◌<◌, ◌≤◌, ◌⊎◌, Bool, true, false, nat_eq, if◌then◌else◌, cond, List, [], ◌∷◌, length, slice_index_or, Option, Some, None}
 use Rattle.std.specs.FinMap.{from_entries, len}
 use Rattle.lit_pool.specs.Limit.{slots_end}
 use Rattle.lit_pool.specs.declared.Which.{Which}

@@ -1,6 +1,6 @@
-//! Lists of literals with two links each, named by slots. A clause store keeps its clauses in one pool, and propagation
-//! threads its watch chains through the links. Contracts see a finite map from each live slot to its entry, so each call
-//! says in one equation what becomes of one entry and that all others stay.
+//! Lists of literals with two links each, named by slots. A clause store keeps its clauses in one pool. The links are for lists
+//! of entries that callers thread through them; the pool threads its freed entries so. Contracts see a finite map from each
+//! live slot to its entry, so each call says in one equation what becomes of one entry and that all others stay.
 //!
 //! All entries lie in one table of words in raw memory, and a slot says where its entry begins there.
 #![tactic(auto)]
@@ -49,7 +49,7 @@ impl Model for Slot {
     ghost inverse = { λ n. record { number = n } };
 }
 
-/// Each slot is below this number.
+/// Each slot is below this number, which as a link's word stands for no slot.
 const SLOTS_END: u32 = 2 * MAX_VAR - 1;
 
 /// No entry has more literals.
@@ -62,6 +62,15 @@ impl Slot {
         ensures { result ≡ self }
     {
         self.number as u64
+    }
+
+    /// The slot of this number, which may be that of no entry. For those who keep slots as numbers of their own.
+    #[inline(always)]
+    pub fn from_number(number: u32) -> Slot
+        requires { number < slots_end }
+        ensures { result ≡ number }
+    {
+        Slot { number }
     }
 }
 
@@ -149,6 +158,16 @@ impl Pool {
         ensures { result.now ≡ lits_at self.now s }
     {
         piece::lits(&self.words, s)
+    }
+
+    /// The literal at a place of a live entry's list, counted from 0.
+    #[inline(always)]
+    pub fn at(&self, s: Slot, i: usize) -> Lit
+        requires live { IsLive self.now s }
+        requires within { i < length (lits_at self.now s) }
+        ensures { result ≡ slice_index (lits_at self.now s) i }
+    {
+        piece::at(&self.words, s, i)
     }
 
     /// The first two literals of a live entry, which has two or more.

@@ -6,17 +6,14 @@ ghost use Rattle.lit_pool.specs.Entry.{new_entry, link_of, relinked};
 ghost use Rattle.lit_pool.specs.Pieces.{IsWithin, entry_in, len_in, room_in, most_literals, link_of_word, word_of_link, place_of_link};
 
 use crate::words::Words;
-use crate::{Slot, Which};
-use lits::{Lit, MAX_VAR};
+use crate::{SLOTS_END, Slot, Which};
+use lits::Lit;
 
 /// How many words a unit has.
 pub(crate) const UNIT: usize = 8;
 
 /// How many words a head has.
 pub(crate) const HEAD: usize = 4;
-
-/// The word of a link that is none.
-const NONE: u32 = 2 * MAX_VAR - 1;
 
 /// The place of a piece's first word.
 #[inline(always)]
@@ -34,7 +31,7 @@ fn word_of(link: Option<Slot>) -> Lit
 {
     match link {
         Some(s) => Lit::from_code(s.number),
-        None => Lit::from_code(NONE),
+        None => Lit::from_code(SLOTS_END),
     }
 }
 
@@ -44,7 +41,7 @@ fn link_in(word: Lit) -> Option<Slot>
     ensures { result ≡ link_of_word word }
 {
     let number = word.code();
-    if number == NONE {
+    if number == SLOTS_END {
         None
     } else {
         Some(Slot { number })
@@ -87,6 +84,18 @@ pub(crate) fn lits(words: &Words, s: Slot) -> &[Lit]
     ensures { result.now ≡ (entry_in words.now s).lits }
 {
     words.part(base(s) + HEAD, len(words, s))
+}
+
+/// The literal at a place of an entry's list.
+#[inline(always)]
+pub(crate) fn at(words: &Words, s: Slot, i: usize) -> Lit
+    requires within { 8 * s + 4 + len_in words.now s ≤ length words.now }
+    requires place { i < len_in words.now s }
+    ensures { result ≡ slice_index (entry_in words.now s).lits i }
+{
+    // So the place is known to be a number of the machine.
+    let _ = words.len();
+    words.at(base(s) + HEAD + i)
 }
 
 /// The first two literals of an entry that has so many.
@@ -148,8 +157,8 @@ pub(crate) fn fill(words: &mut Words, s: Slot, lits: &[Lit])
 {
     let at = base(s);
     words.put(at + 1, Lit::from_code(lits.len() as u32));
-    words.put(at + 2, Lit::from_code(NONE));
-    words.put(at + 3, Lit::from_code(NONE));
+    words.put(at + 2, Lit::from_code(SLOTS_END));
+    words.put(at + 3, Lit::from_code(SLOTS_END));
     let mut i = 0;
     while i < lits.len() {
         words.put(at + HEAD + i, lits[i]);

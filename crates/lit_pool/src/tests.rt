@@ -16,11 +16,17 @@ fn an_entry_is_added_and_changed(rt: HostRuntime) -> Result<(), Fail> {
     pool.set_link(s, Which::Two, Some(s));
     assert_eq!(rt; pool.link(s, Which::One), None);
     assert_eq!(rt; pool.link(s, Which::Two), Some(s));
+    assert_eq!(rt; pool.at(s, 1).number(), 1);
     let lits = pool.lits(s);
     assert_eq!(rt; lits.len(), 2);
     assert_eq!(rt; lits[0].number(), -2);
     assert_eq!(rt; lits[1].number(), 1);
     Ok(())
+}
+
+#[test]
+fn a_slot_is_made_of_its_number(rt: HostRuntime) {
+    assert_eq!(rt; Slot::from_number(7).number(), 7);
 }
 
 #[test]

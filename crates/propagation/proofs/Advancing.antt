@@ -3,7 +3,7 @@ use Rattle.std.proofs.Common.{◌≡◌, ℕ, suc, ◌+◌, ◌<◌, ◌≤◌, 
 use Rattle.std.proofs.lemmas.List.{append-nil}
 use Rattle.session_rules.specs.Logic.{has}
 use Rattle.clause_store.specs.Clauses.{Store, slot_at, lits_at}
-use Rattle.watch_chains.specs.Chains.{Watched}
+use Rattle.watch_lists.specs.Watched.{Watched}
 use Rattle.propagation.specs.declared.Step.{Step}
 use Rattle.propagation.specs.Assigned.{Assigned, with_last}
 use Rattle.propagation.specs.Clauses.{clauses_of}
@@ -11,7 +11,7 @@ use Rattle.propagation.specs.Engine.{EngineView, IsEngine, IsStep, IsFree, IsRea
 use Rattle.propagation.specs.Watching.{engine_of, IsSatisfied, IsCovered, IsDone, IsReady, IsMoved, Advances}
 use Rattle.propagation.proofs.Trail.{IsEngine-push, step_of_reason, literals-push, level_after-append, length-literals}
 use Rattle.propagation.proofs.Covering.{has_more, has_end, covered_more, done_covered}
-use Rattle.watch_chains.proofs.Running.{member_cases}
+use Rattle.watch_lists.proofs.Members.{member_cases}
 
 pub literals-append : (xs ys : List Step) → literals (xs ++ ys) ≡ literals xs ++ literals ys
 literals-append [] ys = refl
@@ -22,7 +22,7 @@ literals-append (x ∷ xs) ys = ap (λ z. x.lit ∷ z) (literals-append xs ys)
 pub moved_none : (trues : List ℕ) (m : Store) → IsMoved trues m m
 moved_none trues m = record { slots = λ q. refl; seen = refl; members = λ q x. refl; kept = λ q h ts w c. c }
 
-pub advances_settled : (w w' : Watched) (a : Assigned) → IsEngine (engine_of w.clauses a.steps a.vars) → IsMoved (literals a.steps) w.clauses w'.clauses → length w'.chains ≡ length w.chains → Advances w w' a a
+pub advances_settled : (w w' : Watched) (a : Assigned) → IsEngine (engine_of w.clauses a.steps a.vars) → IsMoved (literals a.steps) w.clauses w'.clauses → length w'.lists ≡ length w.lists → Advances w w' a a
 advances_settled w w' a k m wide = record {
   moved = m;
   more = [];
@@ -37,7 +37,7 @@ pub new_step : (w : Watched) (a : Assigned) (l s : ℕ) → IsEngine (engine_of 
     → IsStep (clauses_of w.clauses) a.vars a.steps (record { lit = l; reason = Some s })
 new_step w a l s k r free = step_of_reason (engine_of w.clauses a.steps a.vars) (literals a.steps) l s k refl r free
 
-pub advances_put : (w w' : Watched) (a a' : Assigned) (l s : ℕ) → IsEngine (engine_of w.clauses a.steps a.vars) → IsMoved (literals a.steps) w.clauses w'.clauses → length w'.chains ≡ length w.chains
+pub advances_put : (w w' : Watched) (a a' : Assigned) (l s : ℕ) → IsEngine (engine_of w.clauses a.steps a.vars) → IsMoved (literals a.steps) w.clauses w'.clauses → length w'.lists ≡ length w.lists
     → IsReason (clauses_of w.clauses) (literals a.steps) l s → IsFree (literals a.steps) l → a' ≡ with_last a (record { lit = l; reason = Some s }) → Advances w w' a a'
 advances_put w w' a a' l s k m wide r free is = let t : Step = record { lit = l; reason = Some s } in
     let e : EngineView = engine_of w.clauses a.steps a.vars in
@@ -51,9 +51,10 @@ advances_put w w' a a' l s k m wide r free is = let t : Step = record { lit = l;
       engine = subst (λ z. IsEngine (engine_of w'.clauses z.steps z.vars)) (sym is) (subst (λ z. IsEngine (record { clauses = z; trail = a.steps ++ t ∷ []; vars = a.vars })) (sym m.seen) (IsEngine-push e t k (new_step w a l s k r free)));
     }
 
-pub put_done : (a a' : Assigned) (ls : List ℕ) (l s : ℕ) → a' ≡ with_last a (record { lit = l; reason = Some s }) → has ls l ≡ true → IsDone (literals a.steps) (literals a'.steps) ls
-put_done a a' ls l s is m = let t : Step = record { lit = l; reason = Some s } in
-    inl (l, m, subst (λ z. has z l ≡ true) (sym (ap (λ z. literals z.steps) is ∙ literals-push a.steps t)) (has_end (literals a.steps) l))
+-- a literal that was put is true
+pub put_true : (a a' : Assigned) (ls : List ℕ) (l s : ℕ) → a' ≡ with_last a (record { lit = l; reason = Some s }) → has ls l ≡ true → IsSatisfied (literals a'.steps) ls
+put_true a a' ls l s is m = let t : Step = record { lit = l; reason = Some s } in
+    (l, m, subst (λ z. has z l ≡ true) (sym (ap (λ z. literals z.steps) is ∙ literals-push a.steps t)) (has_end (literals a.steps) l))
 
 -- ---- One after another
 

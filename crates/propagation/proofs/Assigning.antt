@@ -2,7 +2,7 @@
 use Rattle.std.proofs.Common.{◌≡◌, ◌≢◌, ℕ, suc, zero, ◌+◌, ◌-◌, ◌*◌, ◌<◌, ◌≤◌, ◌⊎◌, List, [], ◌∷◌, ◌++◌, length, length-append, take, replicate, get_or, Option, Some, None, refl, sym, ap, ◌∙◌, subst, inl, inr, arith, true, false, Bool, nat_eq, ◌||◌, eqb-true, eq-eqb, ne_eqb, append_assoc, Contains}
 use Rattle.std.proofs.lemmas.Option.{same_Some, none-some}
 use Rattle.std.proofs.lemmas.Bool.{cases_Bool, both_ways, and_parts, or_cases, or_left, or_right, eqb-false}
-use Rattle.std.proofs.lemmas.List.{get_or_past, take-append-le, take_all}
+use Rattle.std.proofs.lemmas.List.{get_or_default, get_or_past, take_all}
 use Rattle.std.proofs.lemmas.List.Folds.{list_any-append}
 use Rattle.std.proofs.Math.Seq.{get_or-set_same, get_or-set_other, get_or-append_right}
 use Rattle.std.proofs.Math.ListN.{length-set, get_or-append, length-replicate}
@@ -16,11 +16,11 @@ use Rattle.propagation.specs.declared.Step.{Step}
 use Rattle.propagation.specs.declared.assignment.Mark.{Mark}
 use Rattle.propagation.specs.declared.assignment.Value.{Value}
 use Rattle.propagation.specs.declared.assignment.Value.TheVariants as value
-use Rattle.propagation.specs.Engine.{EngineView, IsEngine, literals, level_after, level_behind, reason_in, value_in, is_assumed, IsFree, up_to_level}
-use Rattle.propagation.specs.Assigned.{Assigned, with_last, IsNew, IsAt, AreNew, AreValues, AreMarks, IsAssigned, raised, lowered, value_of}
-use Rattle.propagation.proofs.Trail.{literals-push, length-literals, AreNew-push, AreNew-prefix, AreNew-more, new-room, level_after-append, cut_push}
+use Rattle.propagation.specs.Engine.{EngineView, IsEngine, literals, level_after, level_behind, reason_in, value_in, IsFree}
+use Rattle.propagation.specs.Assigned.{IsNew, IsAt, AreNew, AreValues, AreMarks, IsAssigned, raised, lowered, value_of}
+use Rattle.propagation.proofs.Trail.{literals-push, length-literals, AreNew-push, AreNew-more, new-room, level_after-append}
 use Rattle.propagation.proofs.Levels.{level_after-le}
-use Rattle.propagation.proofs.Closing.{has-push_old, new-consistent}
+use Rattle.propagation.proofs.Closing.{new-consistent}
 
 -- ---- One literal more
 
@@ -56,10 +56,10 @@ value-push_other ss s l n m =
     let other : neg l ≢ s.lit = λ e. m (sym (neg-neg l) ∙ ap neg e) in
     rw (has-push_other ss s l n, has-push_other ss s (neg l) other) refl
 
-value-free : (trues : List ℕ) (l : ℕ) → IsFree trues l → value_in trues l ≡ None
+pub value-free : (trues : List ℕ) (l : ℕ) → IsFree trues l → value_in trues l ≡ None
 value-free trues l free = rw (free.0, free.1) refl
 
-value-free_neg : (trues : List ℕ) (l : ℕ) → IsFree trues l → value_in trues (neg l) ≡ None
+pub value-free_neg : (trues : List ℕ) (l : ℕ) → IsFree trues l → value_in trues (neg l) ≡ None
 value-free_neg trues l free = let two : has trues (neg (neg l)) ≡ false = ap (has trues) (neg-neg l) ∙ free.0 in rw (free.1, two) refl
 
 cases : (i j : ℕ) → (i ≡ j) ⊎ (i ≢ j)
@@ -68,7 +68,7 @@ cases i j = grind arith
 -- ---- The values
 
 -- what a table has behind two writes
-two_writes : (xs : List Value) (i j k : ℕ) (a b : Value) → i < length xs → j < length xs → i ≢ j
+pub two_writes : (xs : List Value) (i j k : ℕ) (a b : Value) → i < length xs → j < length xs → i ≢ j
     → ((k ≡ i) × (get_or (slice_set (slice_set xs i a) j b) k value.Free ≡ a)) ⊎ (((k ≡ j) × (get_or (slice_set (slice_set xs i a) j b) k value.Free ≡ b)) ⊎ ((k ≢ i) × (k ≢ j) × (get_or (slice_set (slice_set xs i a) j b) k value.Free ≡ get_or xs k value.Free)))
 two_writes xs i j k a b il jl n =
     let jl2 : j < length (slice_set xs i a) = subst (λ z. j < z) (sym (length-set xs i a)) jl in
@@ -90,20 +90,10 @@ values-put ss s xs h free il jl l = elim (two_writes xs s.lit (neg s.lit) l valu
   ]
 ]
 
-values-taken : (ss : List Step) (s : Step) (xs : List Value) → AreValues (ss ++ s ∷ []) xs → IsFree (literals ss) s.lit → s.lit < length xs → neg s.lit < length xs
-    → AreValues ss (slice_set (slice_set xs s.lit value.Free) (neg s.lit) value.Free)
-values-taken ss s xs h free il jl l = elim (two_writes xs s.lit (neg s.lit) l value.Free value.Free il jl (λ e. omega (arith, e))) [
-  | inl r ↦ ap value_of r.1 ∙ sym (ap (value_in (literals ss)) r.0 ∙ value-free (literals ss) s.lit free)
-  | inr o ↦ elim o [
-    | inl r ↦ ap value_of r.1 ∙ sym (ap (value_in (literals ss)) r.0 ∙ value-free_neg (literals ss) s.lit free)
-    | inr r ↦ ap value_of r.2 ∙ h l ∙ value-push_other ss s l r.0 r.1
-  ]
-]
-
 -- ---- Scans that the tables spare
 
 -- what is added behind a literal that is true changes neither its level nor its reason
-level-kept : (n : ℕ) (ss rest : List Step) (l : ℕ) → has (literals ss) l ≡ true → level_behind n (ss ++ rest) l ≡ level_behind n ss l
+pub level-kept : (n : ℕ) (ss rest : List Step) (l : ℕ) → has (literals ss) l ≡ true → level_behind n (ss ++ rest) l ≡ level_behind n ss l
 unfolding level_behind
 level-kept n [] rest l h = cc h
 level-kept n (x ∷ ss) rest l h = elim (cases_Bool (nat_eq (var x.lit) (var l))) [
@@ -239,12 +229,6 @@ at-more ss s l place k = record {
   lit = k.lit;
 }
 
-at-fewer : (ss : List Step) (s : Step) (l place : ℕ) → l ≢ s.lit → IsAt (ss ++ s ∷ []) l place → IsAt ss l place
-at-fewer ss s l place n k = elim (cut_push ss s k.before k.after k.step k.cut) [
-  | inl r ↦ absurd (n (sym k.lit ∙ ap (λ z. z.lit) r.1))
-  | inr r ↦ record { before = k.before; step = k.step; after = r.0; cut = r.1; counted = k.counted; lit = k.lit }
-]
-
 marks-put : (n : ℕ) (ss : List Step) (s : Step) (marks : List Mark) (level place : ℕ) → AreMarks ss marks → IsNew n ss s.lit → n ≤ length marks → level ≡ level_after ss → place ≡ length ss
     → AreMarks (ss ++ s ∷ []) (slice_set marks (var s.lit - 1) (record { level = raised level s.reason; place = place }))
 marks-put n ss s marks level place k new le count long l m h at = elim (cases l s.lit) [
@@ -264,20 +248,15 @@ marks-put n ss s marks level place k new le count long l m h at = elim (cases l 
       record { level = level-kept 0 ss (s ∷ []) l old ∙ mark_at.level; at = at-more ss s l m.place mark_at.at }
 ]
 
-marks-taken : (ss : List Step) (s : Step) (marks : List Mark) → IsFree (literals ss) s.lit → AreMarks (ss ++ s ∷ []) marks → AreMarks ss marks
-marks-taken ss s marks free k l m h at = let r = k l m (has-push_old ss s l h) at in
-    let other : l ≢ s.lit = λ e. both_ways _ free.0 (subst (λ z. has (literals ss) z ≡ true) e h) in
-    record { level = sym (level-kept 0 ss (s ∷ []) l h) ∙ r.level; at = at-fewer ss s l m.place other r.at }
-
 -- ---- The level
 
-level_after-push : (ss : List Step) (s : Step) → level_after (ss ++ s ∷ []) ≡ raised (level_after ss) s.reason
+pub level_after-push : (ss : List Step) (s : Step) → level_after (ss ++ s ∷ []) ≡ raised (level_after ss) s.reason
 level_after-push ss s = level_after-append ss (s ∷ []) ∙ last
   where
     last : level_after ss + level_after (s ∷ []) ≡ raised (level_after ss) s.reason
     last = elim (cases_Bool (is_none s.reason)) [ inl y ↦ rw y refl | inr o ↦ rw o (omega arith) ]
 
-lowered-raised : (n : ℕ) (r : Option ℕ) → lowered (raised n r) r ≡ n
+pub lowered-raised : (n : ℕ) (r : Option ℕ) → lowered (raised n r) r ≡ n
 lowered-raised n None = omega arith
 lowered-raised n (Some r) = refl
 
@@ -325,35 +304,6 @@ assigned-room ss lits values marks level a b s k new =
     let few : level_after ss ≤ length ss = level_after-le ss in
     let same : length lits ≡ length ss = ap length k.same ∙ length-literals ss in
     (omega (arith, lt, k.steps_fit), omega (arith, lt, same, k.lits_fit), omega (arith, lt, few, k.counted, k.limit), omega (arith, lt, k.limit))
-
--- the last step was new behind the others
-pub last-new : (n : ℕ) (ss : List Step) (s : Step) → AreNew n (ss ++ s ∷ []) → IsNew n ss s.lit
-last-new n ss s k = k ss [] s refl
-
-lits-taken : (ss : List Step) (s : Step) (lits new : List ℕ) (n : ℕ) → lits ≡ literals (ss ++ s ∷ []) → n ≡ length lits → new ≡ take (n - 1) lits → new ≡ literals ss
-lits-taken ss s lits new n same count cut =
-    let at : lits ≡ literals ss ++ s.lit ∷ [] = same ∙ literals-push ss s in
-    let long : length lits ≡ length (literals ss) + 1 = ap length at ∙ length-append (literals ss) (s.lit ∷ []) in
-    let m : n - 1 ≡ length (literals ss) = omega (arith, count, long) in
-    cut ∙ ap (λ z. take z lits) m ∙ ap (take (length (literals ss))) at ∙ take-append-le (length (literals ss)) (literals ss) (s.lit ∷ []) (omega arith) ∙ take_all (length (literals ss)) (literals ss) (omega arith)
-
-pub assigned-taken : (all ss : List Step) (lits new : List ℕ) (values : List Value) (marks : List Mark) (level n a b c d : ℕ) (s : Step) → IsAssigned all lits values marks level a b → all ≡ ss ++ s ∷ [] → n ≡ length lits → new ≡ take (n - 1) lits → a ≤ c → b ≤ d
-    → IsAssigned ss new (slice_set (slice_set values s.lit value.Free) (neg s.lit) value.Free) marks (lowered level s.reason) c d
-assigned-taken all ss lits new values marks level n a b c d s k at count cut ac bd =
-    let wide : length (slice_set (slice_set values s.lit value.Free) (neg s.lit) value.Free) ≡ length values = length-set (slice_set values s.lit value.Free) (neg s.lit) value.Free ∙ length-set values s.lit value.Free in
-    let each_new : AreNew (length marks) (ss ++ s ∷ []) = subst (AreNew (length marks)) at k.each_new in
-    let last = last-new (length marks) ss s each_new in
-    record {
-      each_new = AreNew-prefix (length marks) ss (s ∷ []) each_new;
-      same = lits-taken ss s lits new n (k.same ∙ ap literals at) count cut;
-      rows = wide ∙ k.rows;
-      each_value = values-taken ss s values (subst (λ z. AreValues z values) at k.each_value) last.free (omega (arith, last.reserved, k.rows)) (omega (arith, last.reserved, k.rows));
-      each_mark = marks-taken ss s marks last.free (subst (λ z. AreMarks z marks) at k.each_mark);
-      counted = ap (λ z. lowered z s.reason) (k.counted ∙ ap level_after at ∙ level_after-push ss s) ∙ lowered-raised (level_after ss) s.reason;
-      limit = k.limit;
-      steps_fit = omega (arith, k.steps_fit, ac);
-      lits_fit = omega (arith, k.lits_fit, bd);
-    }
 
 -- a literal that has come on the trail is of a reserved variable
 pub reserved-true : (n : ℕ) (ss : List Step) (l : ℕ) → AreNew n ss → has (literals ss) l ≡ true → var l ≤ n
@@ -419,6 +369,13 @@ true-read trues l e = elim (cases_Bool (has trues l)) [
   ]
 ]
 
+-- a literal of a reserved variable whose entry says so is true
+pub true-table : (ss : List Step) (lits : List ℕ) (values : List Value) (marks : List Mark) (level a b l k : ℕ) (v : Value) → IsAssigned ss lits values marks level a b → var l ≤ length marks → k ≡ l → v ≡ get_or values k v → v ≡ value.True → has (literals ss) l ≡ true
+true-table ss lits values marks level a b l k v o low at read is =
+    let within : l < length values = let e = o.rows in omega (arith, e) in
+    let here : v ≡ get_or values l value.Free = read ∙ ap (λ z. get_or values z v) at ∙ get_or_default values l v value.Free within in
+    true-read (literals ss) l (sym (o.each_value l) ∙ ap value_of (sym here ∙ is))
+
 pub false-read : (trues : List ℕ) (l : ℕ) → value_in trues l ≡ Some false → (has trues l ≡ false) × (has trues (neg l) ≡ true)
 false-read trues l e = elim (cases_Bool (has trues l)) [
   | inl y ↦ let f : value_in trues l ≡ Some true = rw y refl in let g : false ≡ true = same_Some _ _ (sym e ∙ f) in cc g
@@ -465,43 +422,3 @@ level-read ss marks l v m k e at = elim (either-true (literals ss) l v e) [
       let r = k (neg l) m z (at ∙ ap (λ q. get_or marks (q - 1) m) (sym same)) in
       sym (level-same_var 0 ss l (neg l) (sym same) ∙ r.level)
 ]
-
--- ---- Back to a level
-
-pub above-level : (n : ℕ) (ss : List Step) (s : Step) → n < level_after (ss ++ s ∷ []) → up_to_level n (ss ++ s ∷ []) ≡ up_to_level n ss
-unfolding up_to_level
-above-level n [] s lt = elim (cases_Bool (is_assumed s)) [
-  | inl y ↦ let f : n < 1 = rw y at lt in let z : n ≡ 0 = omega arith in rw z (rw y refl)
-  | inr o ↦ let f : n < 0 = rw o at lt in absurd (omega arith)
-]
-above-level zero (x ∷ ss) s lt = elim (cases_Bool (is_assumed x)) [
-  | inl y ↦ rw y refl
-  | inr o ↦ let f : 0 < level_after (ss ++ s ∷ []) = rw o at lt in rw o (ap (λ z. x ∷ z) (above-level zero ss s f))
-]
-above-level (suc n) (x ∷ ss) s lt = elim (cases_Bool (is_assumed x)) [
-  | inl y ↦ let f : suc n < suc (level_after (ss ++ s ∷ [])) = rw y at lt in rw y (ap (λ z. x ∷ z) (above-level n ss s (omega (arith, f))))
-  | inr o ↦ let f : suc n < level_after (ss ++ s ∷ []) = rw o at lt in rw o (ap (λ z. x ∷ z) (above-level (suc n) ss s f))
-]
-
-pub whole-level : (n : ℕ) (ss : List Step) → level_after ss ≤ n → up_to_level n ss ≡ ss
-unfolding up_to_level
-whole-level n [] le = refl
-whole-level zero (x ∷ ss) le = elim (cases_Bool (is_assumed x)) [
-  | inl y ↦ let f : suc (level_after ss) ≤ 0 = rw y at le in absurd (omega arith)
-  | inr o ↦ let f : level_after ss ≤ 0 = rw o at le in rw o (ap (λ z. x ∷ z) (whole-level zero ss f))
-]
-whole-level (suc n) (x ∷ ss) le = elim (cases_Bool (is_assumed x)) [
-  | inl y ↦ let f : suc (level_after ss) ≤ suc n = rw y at le in rw y (ap (λ z. x ∷ z) (whole-level n ss (omega (arith, f))))
-  | inr o ↦ let f : level_after ss ≤ suc n = rw o at le in rw o (ap (λ z. x ∷ z) (whole-level (suc n) ss f))
-]
-
--- where a level is above another there is a literal
-pub some-above : (n : ℕ) (ss : List Step) → n < level_after ss → 0 < length ss
-some-above n [] lt = absurd (omega arith)
-some-above n (x ∷ ss) lt = omega arith
-
-pub back-step : (n : ℕ) (a b : Assigned) (s : Step) → a ≡ with_last b s → n < level_after a.steps → (up_to_level n b.steps ≡ up_to_level n a.steps) × (b.vars ≡ a.vars)
-back-step n a b s e lt = (
-  sym (ap (λ z. up_to_level n z.steps) e ∙ above-level n b.steps s (subst (λ z. n < level_after z.steps) e lt)),
-  sym (ap (λ z. z.vars) e),
-)

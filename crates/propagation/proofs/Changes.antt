@@ -14,9 +14,6 @@ use Rattle.lits.specs.Clause.{set_of}
 use Rattle.session_rules.specs.Logic.{has, is_unit}
 use Rattle.lits.proofs.Members.{here, there, not_in_nil, here_or_there, all_from, has_at, has_from}
 use Rattle.clause_store.specs.Clauses.{Held, Store, slot_at, is_active, is_held, IsFresh, new_clause}
-use Rattle.clause_store.specs.Clauses.{with_place}
-use Rattle.watch_chains.specs.Links.{unlinked, no_links}
-use Rattle.watch_chains.proofs.Placed.{get-unlinked}
 use Rattle.propagation.specs.declared.Step.{Step}
 use Rattle.std.proofs.Common.{◌&&◌, not}
 use Rattle.std.specs.Prelude.{is_none, unwrap_or}
@@ -357,19 +354,6 @@ value_back m n e k steps vars v ok = subst (λ z. IsRestored z k (engine_of n st
   fresh = λ x at. ok.fresh x (sym (slot_of-clauses_of m x) ∙ at);
   changed = λ i. record { clauses = clauses_of-restored m n k ok i; trail = steps; vars = vars };
 })
-
--- ---- Clauses without their links
-
-pub clauses_of-unlinked : (m : Store) → clauses_of (unlinked m) ≡ clauses_of m
-clauses_of-unlinked m = same _ _ (λ q. get-clauses_of (unlinked m) q ∙ ap (option_map clause_of) (get-unlinked m q) ∙ no_link (get m q) ∙ sym (get-clauses_of m q))
-  where
-    no_link : (o : Option Held) → option_map clause_of (option_map (with_place no_links) o) ≡ option_map clause_of o
-    no_link None = refl
-    no_link (Some h) = ap Some (by_place h.literals h.place)
-      where
-        by_place : (ls : List ℕ) (o : Option held.Place) → clause_of (with_place no_links (record { literals = ls; place = o })) ≡ clause_of (record { literals = ls; place = o })
-        by_place ls None = refl
-        by_place ls (Some p) = refl
 
 -- ---- A clause that has come
 

@@ -7,8 +7,8 @@ use Rattle.lits.specs.Literal.{neg}
 use Rattle.session_rules.specs.Logic.{has}
 use Rattle.lits.proofs.Members.{all_at, has_at}
 use Rattle.clause_store.specs.Clauses.{IsOnce}
-use Rattle.watch_chains.proofs.Running.{has-here, has-there, member_cases}
-use Rattle.watch_chains.proofs.Two.{has-first, has-second, firsts-apart}
+use Rattle.watch_lists.proofs.Members.{has-here, has-there, member_cases}
+use Rattle.watch_lists.proofs.FirstTwo.{has-first, has-second, firsts-apart}
 use Rattle.propagation.specs.Engine.{IsQuiet}
 use Rattle.propagation.specs.Watching.{IsSatisfied, HasTwo, IsCovered, IsDone}
 use Rattle.propagation.proofs.Scan.{quiet_true, quiet_two}

@@ -5,8 +5,7 @@ use Rattle.std.specs.Prelude.{option_map, is_some, IsTrue, Result, Ok, Err, IfOk
 use Rattle.std.proofs.lemmas.List.{length-take-le}
 use Rattle.std.proofs.lemmas.Bool.{both_ways, and_parts}
 use Rattle.std.proofs.lemmas.Option.{none-some}
-use Rattle.std.specs.FinMap.{insert, remove, empty, contains_key, get-insert, get-empty}
-use Rattle.std.specs.Cmp.{nat_cmp_total}
+use Rattle.std.specs.FinMap.{insert, remove, empty, contains_key, get-empty}
 use Rattle.std.specs.Ordering.{nat_cmp}
 use Rattle.lits.specs.Literal.{max_var, var}
 use Rattle.session_rules.specs.Logic.{has}
@@ -14,8 +13,7 @@ use Rattle.clause_store.specs.declared.StoreFault.{StoreFault}
 use Rattle.clause_store.specs.declared.StoreFault.TheVariants.{NotActive}
 use Rattle.clause_store.specs.Clauses as held
 use Rattle.clause_store.specs.Clauses.{Held, Store, IsStore, IsFresh, slot_at, lits_at, is_active, is_held, new_clause}
-use Rattle.watch_chains.specs.Chains.{Watched, IsWatched, deleted, weakened, IsRestored as IsRestoredWatched}
-use Rattle.watch_chains.proofs.Seen.{length-left, length-entered}
+use Rattle.watch_lists.specs.Watched.{Watched, IsWatched}
 use Rattle.propagation.specs.declared.Step.{Step}
 use Rattle.propagation.specs.declared.Heads.{Heads}
 use Rattle.propagation.specs.Assigned.{Assigned, with_last, with_steps, nothing_assigned}
@@ -26,7 +24,7 @@ use Rattle.propagation.specs.Watching.{engine_of, IsReady, IsMoved, Advances, Re
 use Rattle.propagation.specs.Inside.{AreShorts, IsMark, IsInside}
 use Rattle.propagation.proofs.Levels.{up_to_level-prefix, up_to_level-below, up_to_level-assumed, up_to_level-lower, level_after-exactly}
 use Rattle.propagation.proofs.ClausesMap.{get-clauses_of, slot_of-clauses_of}
-use Rattle.propagation.proofs.Changes.{clauses_of-insert, clauses_of-remove, clauses_of-empty, clauses_of-weakened, clauses_of-restored, get-from_held, IsEngine-insert, IsEngine-remove, IsEngine-put, IsEngine-none, IsEngine-vars, no_reason-slotless, literals-reserved, held_seen, held_if_active, value_new, ties}
+use Rattle.propagation.proofs.Changes.{clauses_of-insert, clauses_of-remove, clauses_of-empty, clauses_of-weakened, clauses_of-restored, get-from_held, IsEngine-insert, IsEngine-remove, IsEngine-put, IsEngine-none, IsEngine-vars, no_reason-slotless, literals-reserved, held_seen, held_if_active, value_new}
 use Rattle.propagation.proofs.Trail.{IsEngine-push, IsEngine-prefix, level_after-append, length-literals}
 use Rattle.propagation.proofs.Covering.{has_more, covered_more}
 use Rattle.propagation.proofs.Advancing.{literals-append, moved_none, advances_settled, ready_still, length_longer}
@@ -205,7 +203,7 @@ if_none (Some s) P Q f p = p
 
 -- ---- Clauses that come
 
-pub inside_same : (w v : Watched) (a : Assigned) (head : ℕ) (ids : List ℕ) (short_head : ℕ) (levels : List Heads) (room : ℕ) → IsInside w a head ids short_head levels room → v.clauses ≡ w.clauses → length v.chains ≡ length w.chains
+pub inside_same : (w v : Watched) (a : Assigned) (head : ℕ) (ids : List ℕ) (short_head : ℕ) (levels : List Heads) (room : ℕ) → IsInside w a head ids short_head levels room → v.clauses ≡ w.clauses → length v.lists ≡ length w.lists
     → IsInside v a head ids short_head levels room
 inside_same w v a head ids short_head levels room h e wide = record {
   sound = subst (λ z. IsEngine (engine_of z a.steps a.vars)) (sym e) h.sound;
@@ -218,7 +216,7 @@ inside_same w v a head ids short_head levels room h e wide = record {
 }
 
 pub inside_pushed : (w v : Watched) (a : Assigned) (head : ℕ) (ids : List ℕ) (short_head : ℕ) (levels : List Heads) (room id s : ℕ) (ls : List ℕ) → IsInside w a head ids short_head levels room
-    → v.clauses ≡ insert w.clauses id (new_clause ls s) → IsFresh w.clauses s → is_held w.clauses id ≡ false → ((l : ℕ) → Contains ls l → var l ≤ a.vars) → length v.chains ≡ length w.chains
+    → v.clauses ≡ insert w.clauses id (new_clause ls s) → IsFresh w.clauses s → is_held w.clauses id ≡ false → ((l : ℕ) → Contains ls l → var l ≤ a.vars) → length v.lists ≡ length w.lists
     → IsInside v a head (ids ++ id ∷ []) short_head levels room
 inside_pushed w v a head ids short_head levels room id s ls h is fresh free reserved wide =
     let at : clauses_of v.clauses ≡ insert (clauses_of w.clauses) id (active_clause ls s) = ap clauses_of is ∙ clauses_of-insert w.clauses id (new_clause ls s) in
@@ -234,7 +232,7 @@ inside_pushed w v a head ids short_head levels room id s ls h is fresh free rese
     }
 
 pub inside_listed : (w v : Watched) (a : Assigned) (head : ℕ) (ids more : List ℕ) (short_head : ℕ) (levels : List Heads) (room id : ℕ) (ls : List ℕ) (r : Result ℕ StoreFault) → IsInside w a head ids short_head levels room
-    → length v.chains ≡ length w.chains → IfOk r (λ _. more ≡ ids ++ id ∷ []) → IfOk r (λ s. IsFresh w.clauses s) → IfOk r (λ s. v.clauses ≡ insert w.clauses id (new_clause ls s)) → IfOk r (λ _. is_held w.clauses id ≡ false)
+    → length v.lists ≡ length w.lists → IfOk r (λ _. more ≡ ids ++ id ∷ []) → IfOk r (λ s. IsFresh w.clauses s) → IfOk r (λ s. v.clauses ≡ insert w.clauses id (new_clause ls s)) → IfOk r (λ _. is_held w.clauses id ≡ false)
     → IfErr r (λ _. (v.clauses ≡ w.clauses) × (more ≡ ids)) → ((l : ℕ) → Contains ls l → var l ≤ a.vars) → IsInside v a head more short_head levels room
 inside_listed w v a head ids more short_head levels room id ls (Ok s) h wide listed fresh ok free err reserved =
     subst (λ z. IsInside v a head z short_head levels room) (sym listed) (inside_pushed w v a head ids short_head levels room id s ls h ok fresh free reserved wide)
@@ -242,7 +240,7 @@ inside_listed w v a head ids more short_head levels room id ls (Err f) h wide li
     subst (λ z. IsInside v a head z short_head levels room) (sym err.1) (inside_same w v a head ids short_head levels room h err.0 wide)
 
 pub inside_moved : (w v : Watched) (a : Assigned) (head : ℕ) (ids : List ℕ) (short_head : ℕ) (levels : List Heads) (room : ℕ) → IsInside w a head ids short_head levels room → IsMoved (literals a.steps) w.clauses v.clauses
-    → length v.chains ≡ length w.chains → IsInside v a head ids short_head levels room
+    → length v.lists ≡ length w.lists → IsInside v a head ids short_head levels room
 inside_moved w v a head ids short_head levels room h m wide =
     inside_advanced w v a a head ids short_head levels room head short_head h (advances_settled w v a h.sound m wide)
     (mark_moved (literals a.steps) (literals a.steps) w.clauses v.clauses head short_head ids m (λ x y. y) h.now)
@@ -261,31 +259,9 @@ inside_popped v a head ids short_head levels room id s h level within k here res
 
 -- ---- Clauses that go
 
-active_slot : (o : Option ℕ) → is_some o ≡ true → (s : ℕ) × (o ≡ Some s)
-active_slot None e = cc e
-active_slot (Some s) e = (s, refl)
-
-pub clauses_deleted : (w v : Watched) (id : ℕ) (r : Result (Unit {0}) StoreFault) → IfOk r (λ _. (s : ℕ) → slot_at w.clauses id ≡ Some s → v ≡ deleted w id s) → IfOk r (λ _. IsTrue (is_active w.clauses id))
-    → IfOk r (λ _. v.clauses ≡ remove w.clauses id)
-clauses_deleted w v id (Ok u) ok on = let s = active_slot (slot_at w.clauses id) on in ap (λ z. z.clauses) (ok s.0 s.1)
-clauses_deleted w v id (Err f) ok on = ok
-
-pub wide_deleted : (w v : Watched) (id : ℕ) (r : Result (Unit {0}) StoreFault) → IfOk r (λ _. (s : ℕ) → slot_at w.clauses id ≡ Some s → v ≡ deleted w id s) → IfOk r (λ _. IsTrue (is_active w.clauses id))
-    → IfErr r (λ f. (f ≡ NotActive) × (v ≡ w)) → length v.chains ≡ length w.chains
-wide_deleted w v id (Ok u) ok on err = let s = active_slot (slot_at w.clauses id) on in ap (λ z. length z.chains) (ok s.0 s.1) ∙ length-left w.chains (lits_at w.clauses id) s.0
-wide_deleted w v id (Err f) ok on err = ap (λ z. length z.chains) err.1
-
-pub clauses_weakened : (w v : Watched) (id : ℕ) (r : Result (Unit {0}) StoreFault) → IfOk r (λ _. (s : ℕ) → slot_at w.clauses id ≡ Some s → v ≡ weakened w id s) → IfOk r (λ _. IsTrue (is_active w.clauses id))
-    → IfOk r (λ _. v.clauses ≡ insert w.clauses id (held.weakened_clause (held.literals_at w.clauses id)))
-clauses_weakened w v id (Ok u) ok on = let s = active_slot (slot_at w.clauses id) on in ap (λ z. z.clauses) (ok s.0 s.1)
-clauses_weakened w v id (Err f) ok on = ok
-
-wide_weakened : (w v : Watched) (id : ℕ) → ((s : ℕ) → slot_at w.clauses id ≡ Some s → v ≡ weakened w id s) → IsTrue (is_active w.clauses id) → length v.chains ≡ length w.chains
-wide_weakened w v id ok on = let s = active_slot (slot_at w.clauses id) on in ap (λ z. length z.chains) (ok s.0 s.1) ∙ length-left w.chains (lits_at w.clauses id) s.0
-
 -- at level 0 no level has begun
 none_before : (w v : Watched) (a : Assigned) (head : ℕ) (ids : List ℕ) (short_head : ℕ) (levels : List Heads) (room : ℕ) → IsInside w a head ids short_head levels room → level_after a.steps ≡ 0
-    → IsEngine (engine_of v.clauses a.steps a.vars) → length v.chains ≡ length w.chains → AreShorts (clauses_of v.clauses) ids → (head2 short_head2 : ℕ) → IsMark v.clauses (literals a.steps) head2 ids short_head2 → IsInside v a head2 ids short_head2 levels room
+    → IsEngine (engine_of v.clauses a.steps a.vars) → length v.lists ≡ length w.lists → AreShorts (clauses_of v.clauses) ids → (head2 short_head2 : ℕ) → IsMark v.clauses (literals a.steps) head2 ids short_head2 → IsInside v a head2 ids short_head2 levels room
 none_before w v a head ids short_head levels room h level sound wide shorts head2 short_head2 mark = record {
   sound = sound;
   wide = let g = h.wide in omega (arith, g, wide);
@@ -297,27 +273,24 @@ none_before w v a head ids short_head levels room h level sound wide shorts head
 }
 
 pub inside_deleted : (w v : Watched) (a : Assigned) (head : ℕ) (ids : List ℕ) (short_head : ℕ) (levels : List Heads) (room : ℕ) (e : EngineView) (id : ℕ) (r : Result (Unit {0}) StoreFault) → IsInside w a head ids short_head levels room
-    → engine_of w.clauses a.steps a.vars ≡ e → level_after e.trail ≡ 0 → IsNoReason e id → IfOk r (λ _. (s : ℕ) → slot_at w.clauses id ≡ Some s → v ≡ deleted w id s) → IfOk r (λ _. IsTrue (is_active w.clauses id))
-    → IfErr r (λ f. (f ≡ NotActive) × (v ≡ w)) → IsInside v a head ids short_head levels room
-inside_deleted w v a head ids short_head levels room e id (Ok u) h is level none ok on err =
-    let gone : v.clauses ≡ remove w.clauses id = clauses_deleted w v id (Ok u) ok on in
+    → engine_of w.clauses a.steps a.vars ≡ e → level_after e.trail ≡ 0 → IsNoReason e id → IfOk r (λ _. v.clauses ≡ remove w.clauses id) → IfErr r (λ f. (f ≡ NotActive) × (v ≡ w)) → length v.lists ≡ length w.lists → IsInside v a head ids short_head levels room
+inside_deleted w v a head ids short_head levels room e id (Ok u) h is level none gone err wide =
     let at : clauses_of v.clauses ≡ remove (clauses_of w.clauses) id = ap clauses_of gone ∙ clauses_of-remove w.clauses id in
     none_before w v a head ids short_head levels room h (ap (λ z. level_after z.trail) is ∙ level)
     (subst (λ z. IsEngine (record { clauses = z; trail = a.steps; vars = a.vars })) (sym at) (IsEngine-remove (engine_of w.clauses a.steps a.vars) id h.sound (subst (λ z. IsNoReason z id) (sym is) none)))
-    (wide_deleted w v id (Ok u) ok on err) (shorts_removed (clauses_of w.clauses) (clauses_of v.clauses) ids id at h.shorts) head short_head (mark_removed w.clauses v.clauses (literals a.steps) head short_head ids id gone h.now)
-inside_deleted w v a head ids short_head levels room e id (Err f) h is level none ok on err = subst (λ z. IsInside z a head ids short_head levels room) (sym err.1) h
+    wide (shorts_removed (clauses_of w.clauses) (clauses_of v.clauses) ids id at h.shorts) head short_head (mark_removed w.clauses v.clauses (literals a.steps) head short_head ids id gone h.now)
+inside_deleted w v a head ids short_head levels room e id (Err f) h is level none gone err wide = subst (λ z. IsInside z a head ids short_head levels room) (sym err.1) h
 
 pub inside_weakened : (w v : Watched) (a : Assigned) (head : ℕ) (ids : List ℕ) (short_head : ℕ) (levels : List Heads) (room : ℕ) (e : EngineView) (id : ℕ) (r : Result (Unit {0}) StoreFault) → IsInside w a head ids short_head levels room
-    → engine_of w.clauses a.steps a.vars ≡ e → level_after e.trail ≡ 0 → IsNoReason e id → IfOk r (λ _. (s : ℕ) → slot_at w.clauses id ≡ Some s → v ≡ weakened w id s) → IfOk r (λ _. IsTrue (is_active w.clauses id))
-    → IfErr r (λ _. v ≡ w) → IsInside v a head ids short_head levels room
-inside_weakened w v a head ids short_head levels room e id (Ok u) h is level none ok on err =
-    let gone : v.clauses ≡ insert w.clauses id (held.weakened_clause (held.literals_at w.clauses id)) = clauses_weakened w v id (Ok u) ok on in
+    → engine_of w.clauses a.steps a.vars ≡ e → level_after e.trail ≡ 0 → IsNoReason e id → IfOk r (λ _. v.clauses ≡ insert w.clauses id (held.weakened_clause (held.literals_at w.clauses id))) → IfOk r (λ _. IsTrue (is_active w.clauses id))
+    → IfErr r (λ _. v ≡ w) → length v.lists ≡ length w.lists → IsInside v a head ids short_head levels room
+inside_weakened w v a head ids short_head levels room e id (Ok u) h is level none gone on err wide =
     let at = clauses_of-weakened w.clauses v.clauses id gone in
     none_before w v a head ids short_head levels room h (ap (λ z. level_after z.trail) is ∙ level)
     (subst (λ z. IsEngine (record { clauses = z; trail = a.steps; vars = a.vars })) (sym at)
     (IsEngine-put (engine_of w.clauses a.steps a.vars) id (weakened_clause (seen.literals_at (clauses_of w.clauses) id)) h.sound (subst (λ z. IsNoReason z id) (sym is) none) (λ s so. absurd (none-some s so)) (λ l c. literals-reserved (engine_of w.clauses a.steps a.vars) id l h.sound c)))
-    (wide_weakened w v id ok on) (shorts_kept (clauses_of w.clauses) (clauses_of v.clauses) ids id _ at (held_seen w.clauses id ∙ held_if_active w.clauses id on) refl h.shorts) head short_head (mark_weakened w.clauses v.clauses (literals a.steps) head short_head ids id gone h.now)
-inside_weakened w v a head ids short_head levels room e id (Err f) h is level none ok on err = subst (λ z. IsInside z a head ids short_head levels room) (sym err) h
+    wide (shorts_kept (clauses_of w.clauses) (clauses_of v.clauses) ids id _ at (held_seen w.clauses id ∙ held_if_active w.clauses id on) refl h.shorts) head short_head (mark_weakened w.clauses v.clauses (literals a.steps) head short_head ids id gone h.now)
+inside_weakened w v a head ids short_head levels room e id (Err f) h is level none gone on err wide = subst (λ z. IsInside z a head ids short_head levels room) (sym err) h
 
 -- ---- A clause that comes back
 
@@ -326,19 +299,17 @@ none_of None e = refl
 none_of (Some s) e = cc e
 
 pub inside_restored : (w v : Watched) (a : Assigned) (head : ℕ) (ids : List ℕ) (short_head : ℕ) (levels : List Heads) (room : ℕ) (e : EngineView) (id : ℕ) → IsInside w a head ids short_head levels room
-    → engine_of w.clauses a.steps a.vars ≡ e → level_after e.trail ≡ 0 → IsWatched v → IsRestoredWatched w id v → IsTrue (held.is_weakened w.clauses id) → IsInside v a 0 ids 0 levels room
-inside_restored w v a head ids short_head levels room e id h is level k back weak =
+    → engine_of w.clauses a.steps a.vars ≡ e → level_after e.trail ≡ 0 → IsWatched v → held.IsRestored w.clauses id v.clauses → IsTrue (held.is_weakened w.clauses id) → length v.lists ≡ length w.lists → IsInside v a 0 ids 0 levels room
+inside_restored w v a head ids short_head levels room e id h is level k r weak wide =
     let parts = and_parts (is_held w.clauses id) _ weak in
     let off : slot_of (clauses_of w.clauses) id ≡ None = slot_of-clauses_of w.clauses id ∙ none_of (slot_at w.clauses id) parts.1 in
-    let r = back.clauses in
     let at = clauses_of-restored w.clauses v.clauses id r in
     let shorts : AreShorts (clauses_of v.clauses) ids = shorts_kept (clauses_of w.clauses) (clauses_of v.clauses) ids id _ at (held_seen w.clauses id ∙ parts.0) refl h.shorts in
-    let slot : slot_at v.clauses id ≡ Some r.slot = subst (λ z. slot_at z id ≡ Some r.slot) (sym r.changed) (rw (get-insert nat_cmp_total, ties id) refl) in
     none_before w v a head ids short_head levels room h (ap (λ z. level_after z.trail) is ∙ level)
     (subst (λ z. IsEngine (record { clauses = z; trail = a.steps; vars = a.vars })) (sym at)
     (IsEngine-put (engine_of w.clauses a.steps a.vars) id (record { literals = seen.literals_at (clauses_of w.clauses) id; slot = Some r.slot }) h.sound (no_reason-slotless (engine_of w.clauses a.steps a.vars) id off)
     (λ s so q to. r.fresh q (sym (slot_of-clauses_of w.clauses q) ∙ to ∙ sym so)) (λ l c. literals-reserved (engine_of w.clauses a.steps a.vars) id l h.sound c)))
-    (ap length (back.chains r.slot slot) ∙ length-entered w.chains (lits_at v.clauses id) r.slot) shorts 0 0 (mark_start v.clauses (literals a.steps) ids k.store shorts)
+    wide shorts 0 0 (mark_start v.clauses (literals a.steps) ids k.store shorts)
 
 -- ---- The beginning, and more variables
 
@@ -356,7 +327,7 @@ inside_new w a ids levels room e f g i =
     } in
     subst (λ z. IsInside w z 0 ids 0 levels room) (sym f) (subst (λ z. IsInside w nothing_assigned 0 z 0 levels room) (sym g) (subst (λ z. IsInside w nothing_assigned 0 [] 0 z room) (sym i) all))
 
-pub inside_wider : (w v : Watched) (a : Assigned) (head : ℕ) (ids : List ℕ) (short_head : ℕ) (levels more : List Heads) (room room2 vars : ℕ) → IsInside w a head ids short_head levels room → v.clauses ≡ w.clauses → 2 * vars ≤ length v.chains
+pub inside_wider : (w v : Watched) (a : Assigned) (head : ℕ) (ids : List ℕ) (short_head : ℕ) (levels more : List Heads) (room room2 vars : ℕ) → IsInside w a head ids short_head levels room → v.clauses ≡ w.clauses → 2 * vars ≤ length v.lists
     → a.vars ≤ vars → vars ≤ max_var → more ≡ levels → vars ≤ room2 → IsInside v (record { steps = a.steps; vars = vars }) head ids short_head more room2
 inside_wider w v a head ids short_head levels more room room2 vars h e wide up limit same le =
     let all : IsInside v (record { steps = a.steps; vars = vars }) head ids short_head levels room2 = record {

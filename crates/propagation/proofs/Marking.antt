@@ -12,9 +12,9 @@ use Rattle.lits.proofs.Members.{filter_from, has_at, has_from}
 use Rattle.std.proofs.lemmas.Bool.{ltb-false}
 use Rattle.clause_store.specs.Clauses as held
 use Rattle.clause_store.specs.Clauses.{Held, Store, IsStore, IsOnce, slot_at, lits_at}
-use Rattle.watch_chains.proofs.Running.{has-here, has-there, member_cases, unlike}
-use Rattle.watch_chains.proofs.Two.{once-lits, has-first, has-second, firsts-apart}
-use Rattle.watch_chains.proofs.Keeping.{lits-literals}
+use Rattle.watch_lists.proofs.Members.{has-here, has-there, member_cases, unlike}
+use Rattle.watch_lists.proofs.FirstTwo.{once-lits, has-first, has-second, firsts-apart}
+use Rattle.watch_lists.proofs.Placed.{lits-literals}
 use Rattle.propagation.specs.Clauses.{Clause, Clauses, clauses_of, active_at, literals_at}
 use Rattle.propagation.specs.Engine.{literals, EngineView, IsEngine, IsPropagated}
 use Rattle.propagation.specs.Watching.{IsCovered, IsReady, IsMoved, Rests}

@@ -9,7 +9,7 @@ use Rattle.lits.specs.Clause.{set_of, with_literal}
 use Rattle.lits.proofs.Members.{has_at, all_at}
 use Rattle.session_rules.specs.Logic.{has, is_unit}
 use Rattle.clause_store.specs.Clauses.{Held, Place, Store, IsStore, IsActiveWith, slot_at, lits_at}
-use Rattle.watch_chains.specs.Chains.{Watched}
+use Rattle.watch_lists.specs.Watched.{Watched}
 use Rattle.propagation.specs.declared.Step.{Step}
 use Rattle.propagation.specs.declared.Heads.{Heads}
 use Rattle.propagation.specs.Assigned.{Assigned, AreNew, with_steps, with_reason, rested}

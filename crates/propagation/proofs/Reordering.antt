@@ -1,24 +1,18 @@
--- Changes of one list's order, and the chains after them.
-use Rattle.std.proofs.Common.{◌≡◌, ◌≢◌, ℕ, ◌<◌, ◌≤◌, List, [], length, Some, refl, sym, ap, ◌∙◌, subst, inl, inr, arith, cond, eq-eqb, get_or-set_other, get_or-set_same}
-use Rattle.std.specs.Prelude.{slice_index, slice_set, option_map}
+-- Changes of one list's order.
+use Rattle.std.proofs.Common.{◌≡◌, ◌≢◌, ℕ, ◌<◌, ◌≤◌, length, Some, refl, sym, ap, ◌∙◌, subst, inl, inr, arith, cond, eq-eqb}
+use Rattle.std.specs.Prelude.{slice_index, option_map}
 use Rattle.std.specs.List.{swap}
-use Rattle.std.proofs.Math.ListN.{length-set}
 use Rattle.std.proofs.lemmas.List.Edits.{length-swap}
-use Rattle.std.proofs.lemmas.Bool.{false_from_ne_true}
-use Rattle.std.proofs.lemmas.Bool.Decides.{leb_tells}
 use Rattle.std.specs.Cmp.{nat_cmp_total}
 use Rattle.std.specs.FinMap.{get, insert, same_map, get-insert, nat_cmp-IsAntisymmetric}
 use Rattle.session_rules.specs.Logic.{has}
 use Rattle.clause_store.specs.Clauses.{Held, Place, Store, slot_at, lits_at, literals_at, clause_at, swapped, with_place, with_swap}
-use Rattle.watch_chains.specs.Runs.{without}
-use Rattle.watch_chains.specs.Chains.{Watched, IsWatched, chain_at, in_front, taken_out, turned, moved}
-use Rattle.watch_chains.proofs.Running.{differs, has-without_at, without-absent}
-use Rattle.watch_chains.proofs.Placed.{active}
-use Rattle.watch_chains.proofs.Keeping.{lits-literals}
-use Rattle.watch_chains.proofs.Seen.{length-moved, at_beyond}
-use Rattle.watch_chains.proofs.Swapping.{swap-slot, swap-lits, swap-literals, at-first, at-third}
+use Rattle.watch_lists.specs.Watched.{Watched, IsWatched}
+use Rattle.watch_lists.proofs.Members.{differs}
+use Rattle.watch_lists.proofs.Placed.{active, lits-literals}
+use Rattle.watch_lists.proofs.Swapping.{swap-slot, swap-lits, swap-literals, at-first, at-third}
 use Rattle.propagation.specs.Clauses.{Clause, Clauses, clause_of, clauses_of}
-use Rattle.propagation.specs.Watching.{IsReordered, IsSecond, IsFirst, IsPair, IsLeftOut}
+use Rattle.propagation.specs.Watching.{IsReordered, IsBrought, IsPair}
 use Rattle.propagation.proofs.ClausesMap.{get-clauses_of}
 use Rattle.propagation.proofs.Changes.{clauses_of-insert, cases, ties, differs as apart}
 
@@ -47,7 +41,7 @@ pub record Exchanges (old new : Watched) (id s a b : ℕ) : Type 0 where
   pub before : IsWatched old
   pub after : IsWatched new
   pub is : new.clauses ≡ with_swap old.clauses id a b
-  pub wide : length new.chains ≡ length old.chains
+  pub wide : length new.lists ≡ length old.lists
 
 module _ (old new : Watched) (id s a b : ℕ) (x : Exchanges old new id s a b) where
   pub slots-exchanged : (q : ℕ) → slot_at new.clauses q ≡ slot_at old.clauses q
@@ -79,64 +73,28 @@ module _ (old new : Watched) (id s a b : ℕ) (x : Exchanges old new id s a b) w
     wide = x.wide;
   }
 
--- ---- Chains
+-- ---- One literal
 
-pub left_out_twice : (s : ℕ) (xs : List ℕ) → without s (without s xs) ≡ without s xs
-left_out_twice s xs = without-absent s (without s xs) (false_from_ne_true _ (λ e. (has-without_at s s xs e).1 refl))
-
-pub left_out_again : (s : ℕ) (xs ys zs : List ℕ) → IsLeftOut s xs ys → IsLeftOut s ys zs → IsLeftOut s xs zs
-left_out_again s xs ys zs (inl e) (inl f) = inl (f ∙ e)
-left_out_again s xs ys zs (inl e) (inr f) = inr (f ∙ ap (without s) e)
-left_out_again s xs ys zs (inr e) (inl f) = inr (f ∙ e)
-left_out_again s xs ys zs (inr e) (inr f) = inr (f ∙ ap (without s) e ∙ left_out_twice s xs)
-
-chain_other : (cs : List (List ℕ)) (l w : ℕ) (v : List ℕ) → w ≢ l → chain_at (slice_set cs l v) w ≡ chain_at cs w
-chain_other cs l w v n = get_or-set_other cs l w v [] n
-
-pub chain_out : (cs : List (List ℕ)) (a b s w : ℕ) → w ≢ b → IsLeftOut s (chain_at cs w) (chain_at (in_front (taken_out cs a s) b s) w)
-chain_out cs a b s w n = elim (cases w a) [
-  | inl y ↦ elim (leb_tells (length cs) a) [
-    | inl le ↦ inl (first ∙ beyond y le.1)
-    | inr lt ↦ inr (first ∙ ap (chain_at (taken_out cs a s)) y ∙ get_or-set_same cs a (without s (chain_at cs a)) [] lt.1 ∙ ap (λ z. without s (chain_at cs z)) (sym y))
-  ]
-  | inr o ↦ inl (first ∙ chain_other cs a w _ o)
-]
-  where
-    first : chain_at (in_front (taken_out cs a s) b s) w ≡ chain_at (taken_out cs a s) w
-    first = chain_other (taken_out cs a s) b w _ n
-
-    beyond : w ≡ a → length cs ≤ a → chain_at (taken_out cs a s) w ≡ chain_at cs w
-    beyond y le = at_beyond (taken_out cs a s) w [] (subst (λ z. z ≤ w) (sym (length-set cs a (without s (chain_at cs a)))) (subst (λ z. length cs ≤ z) (sym y) le)) ∙ sym (at_beyond cs w [] (subst (λ z. length cs ≤ z) (sym y) le))
-
--- ---- The second literal
-
-pub second_stays : (w : Watched) (id s k : ℕ) → k ≡ 1 → IsSecond id s k w w
-second_stays w id s k e = record {
+pub brought_here : (w : Watched) (id place k : ℕ) → k ≡ place → IsBrought id place k w w
+brought_here w id place k e = record {
   order = record { slots = λ q. refl; seen = refl; members = λ q x. refl; others = λ q n. refl; long = λ q. refl; wide = refl };
-  first = refl;
-  second = ap (slice_index (lits_at w.clauses id)) (sym e);
-  later = λ j lt n. refl;
-  chains = λ v n. inl refl;
+  here = ap (slice_index (lits_at w.clauses id)) (sym e);
+  others = λ j m n. refl;
 }
 
-pub second_moved : (old new : Watched) (id s k : ℕ) → slot_at old.clauses id ≡ Some s → IsWatched old → IsWatched new → 2 ≤ k → k < length (lits_at old.clauses id) → new ≡ moved old id s k → IsSecond id s k old new
-second_moved old new id s k at before after le lt is =
-    let x : Exchanges old new id s 1 k = record { slot = at; before = before; after = after; is = ap (λ z. z.clauses) is; wide = ap (λ z. length z.chains) is ∙ length-moved old.chains _ _ s } in
-    let list = list-exchanged old new id s 1 k x in
-    let one : 1 < length (lits_at old.clauses id) = omega arith in
-    let zero_one : 0 ≢ 1 = (λ e. omega (arith, e)) in
-    let zero_k : 0 ≢ k = (λ e. omega (arith, e)) in
+pub brought_later : (old new : Watched) (id s place k : ℕ) → Exchanges old new id s place k → place ≤ 1 → 2 ≤ k → k < length (lits_at old.clauses id) → IsBrought id place k old new
+brought_later old new id s place k x low le lt =
+    let list = list-exchanged old new id s place k x in
+    let first : place < length (lits_at old.clauses id) = omega arith in
     record {
-      order = reordered old new id s 1 k x;
-      first = ap (λ z. slice_index z 0) list ∙ at-third (lits_at old.clauses id) 1 k 0 one lt zero_one zero_k;
-      second = ap (λ z. slice_index z 1) list ∙ at-first (lits_at old.clauses id) 1 k one lt;
-      later = λ j more n. let jo : j ≢ 1 = omega arith in ap (λ z. slice_index z j) list ∙ at-third (lits_at old.clauses id) 1 k j one lt jo n;
-      chains = λ w n. subst (λ z. IsLeftOut s (chain_at old.chains w) (chain_at z.chains w)) (sym is) (chain_out old.chains (slice_index (lits_at old.clauses id) 1) (slice_index (lits_at old.clauses id) k) s w n);
+      order = reordered old new id s place k x;
+      here = ap (λ z. slice_index z place) list ∙ at-first (lits_at old.clauses id) place k first lt;
+      others = λ j m n. ap (λ z. slice_index z j) list ∙ at-third (lits_at old.clauses id) place k j first lt m n;
     }
 
--- ---- One change behind another
+-- ---- Two literals
 
-pub then_reordered : (id : ℕ) (a b c : Watched) → IsReordered id a b → IsReordered id b c → IsReordered id a c
+then_reordered : (id : ℕ) (a b c : Watched) → IsReordered id a b → IsReordered id b c → IsReordered id a c
 then_reordered id a b c x y = record {
   slots = λ q. y.slots q ∙ x.slots q;
   seen = y.seen ∙ x.seen;
@@ -146,40 +104,23 @@ then_reordered id a b c x y = record {
   wide = y.wide ∙ x.wide;
 }
 
--- ---- The first literal
-
-pub first_stays : (w : Watched) (id s k : ℕ) → k ≡ 0 → IsFirst id s k w w
-first_stays w id s k e = record {
-  order = record { slots = λ q. refl; seen = refl; members = λ q x. refl; others = λ q n. refl; long = λ q. refl; wide = refl };
-  first = ap (slice_index (lits_at w.clauses id)) (sym e);
-  later = λ j lt n. refl;
-  chains = λ v n. inl refl;
-}
-
-pub first_turned : (a b c : Watched) (id s k : ℕ) → slot_at a.clauses id ≡ Some s → IsWatched b → IsWatched c → 1 ≤ k → 2 ≤ length (lits_at a.clauses id) → IsSecond id s k a b → c ≡ turned b id → IsFirst id s k a c
-first_turned a b c id s k at before after le two x is =
-    let at_b : slot_at b.clauses id ≡ Some s = x.order.slots id ∙ at in
-    let e : Exchanges b c id s 0 1 = record { slot = at_b; before = before; after = after; is = ap (λ z. z.clauses) is; wide = ap (λ z. length z.chains) is } in
-    let list = list-exchanged b c id s 0 1 e in
-    let long : length (lits_at b.clauses id) ≡ length (lits_at a.clauses id) = x.order.long id in
-    let zero_in : 0 < length (lits_at b.clauses id) = omega arith in
-    let one_in : 1 < length (lits_at b.clauses id) = omega arith in
+-- where the one stands second already
+pub pair_second : (a b : Watched) (id i j : ℕ) → i < j → i ≡ 1 → IsBrought id 0 j a b → IsPair id i j a b
+pair_second a b id i j lt e x =
+    let m : ◌≢◌ {A = ℕ} 1 0 = omega arith in
+    let n : 1 ≢ j = omega arith in
     record {
-      order = then_reordered id a b c x.order (reordered b c id s 0 1 e);
-      first = ap (λ z. slice_index z 0) list ∙ at-first (lits_at b.clauses id) 0 1 zero_in one_in ∙ x.second;
-      later = λ j more n. let j0 : j ≢ 0 = omega arith in let j1 : j ≢ 1 = omega arith in let jk : j ≢ k = omega arith in let lt : 1 < j = omega arith in
-          ap (λ z. slice_index z j) list ∙ at-third (lits_at b.clauses id) 0 1 j zero_in one_in j0 j1 ∙ x.later j lt jk;
-      chains = λ w n. subst (λ z. IsLeftOut s (chain_at a.chains w) (chain_at z.chains w)) (sym is) (x.chains w n);
+      order = x.order;
+      first_two = inr (x.here, x.others 1 m n ∙ ap (slice_index (lits_at a.clauses id)) (sym e));
     }
 
--- ---- Both
-
-pub pair_put : (a b c : Watched) (id s i j : ℕ) → i < j → IsFirst id s i a b → IsSecond id s j b c → IsPair id s i j a c
-pair_put a b c id s i j lt x y =
-    let same : slice_index (lits_at b.clauses id) j ≡ slice_index (lits_at a.clauses id) j = x.later j (omega arith) lt in
+pub pair_put : (a b c : Watched) (id i j : ℕ) → i < j → IsBrought id 0 i a b → IsBrought id 1 j b c → IsPair id i j a c
+pair_put a b c id i j lt x y =
+    let m : ◌≢◌ {A = ℕ} 0 1 = omega arith in
+    let n : 0 ≢ j = omega arith in
+    let p : j ≢ 0 = omega arith in
+    let q : j ≢ i = omega arith in
     record {
       order = then_reordered id a b c x.order y.order;
-      first = y.first ∙ x.first;
-      second = y.second ∙ same;
-      chains = λ w n o. left_out_again s _ _ _ (x.chains w n) (y.chains w (λ e. o (e ∙ same)));
+      first_two = inl (y.others 0 m n ∙ x.here, y.here ∙ x.others j p q);
     }

@@ -2,12 +2,9 @@
 use Rattle.std.proofs.Common.{◌≡◌, ℕ, List, [], ◌∷◌, ◌++◌, length, Option, Some, None, refl, sym, ap, ◌∙◌, subst, arith, true, not}
 use Rattle.std.specs.Prelude.{is_some, IsTrue}
 use Rattle.std.proofs.lemmas.Bool.{and_parts}
-use Rattle.std.specs.FinMap.{get-insert}
-use Rattle.std.specs.Cmp.{nat_cmp_total}
 use Rattle.clause_store.specs.Clauses as held
 use Rattle.clause_store.specs.Clauses.{slot_at, lits_at, is_held}
-use Rattle.watch_chains.specs.Chains.{Watched, IsWatched, IsRestored as IsRestoredWatched}
-use Rattle.watch_chains.proofs.Seen.{length-entered}
+use Rattle.watch_lists.specs.Watched.{Watched, IsWatched}
 use Rattle.propagation.specs.declared.Heads.{Heads}
 use Rattle.propagation.specs.Assigned.{Assigned}
 use Rattle.propagation.specs.Clauses as seen
@@ -16,7 +13,7 @@ use Rattle.propagation.specs.Engine.{EngineView, IsEngine, literals, level_after
 use Rattle.propagation.specs.Watching.{engine_of, IsMoved, Rests}
 use Rattle.propagation.specs.Inside.{IsInside}
 use Rattle.propagation.proofs.ClausesMap.{slot_of-clauses_of}
-use Rattle.propagation.proofs.Changes.{clauses_of-restored, IsEngine-put, no_reason-slotless, literals-reserved, ties}
+use Rattle.propagation.proofs.Changes.{clauses_of-restored, IsEngine-put, no_reason-slotless, literals-reserved}
 use Rattle.propagation.proofs.Marking.{mark_pushed, shorts_pushed}
 use Rattle.propagation.proofs.Insides.{inside_moved, inside_popped}
 
@@ -30,20 +27,17 @@ active_slot (Some s) e = (s, refl)
 
 -- where the id is listed, the heads may stay
 inside_back_listed : (w v : Watched) (a : Assigned) (head : ℕ) (ids : List ℕ) (short_head : ℕ) (levels : List Heads) (room : ℕ) (e : EngineView) (id : ℕ) → IsInside w a head ids short_head levels room
-    → engine_of w.clauses a.steps a.vars ≡ e → level_after e.trail ≡ 0 → IsRestoredWatched w id v → IsTrue (held.is_weakened w.clauses id) → IsInside v a head (ids ++ id ∷ []) short_head levels room
-inside_back_listed w v a head ids short_head levels room e id h is level back weak =
+    → engine_of w.clauses a.steps a.vars ≡ e → level_after e.trail ≡ 0 → held.IsRestored w.clauses id v.clauses → IsTrue (held.is_weakened w.clauses id) → length v.lists ≡ length w.lists → IsInside v a head (ids ++ id ∷ []) short_head levels room
+inside_back_listed w v a head ids short_head levels room e id h is level r weak long =
     let parts = and_parts (is_held w.clauses id) _ weak in
     let off : slot_of (clauses_of w.clauses) id ≡ None = slot_of-clauses_of w.clauses id ∙ none_of (slot_at w.clauses id) parts.1 in
-    let r = back.clauses in
     let at = clauses_of-restored w.clauses v.clauses id r in
-    let slot : slot_at v.clauses id ≡ Some r.slot = subst (λ z. slot_at z id ≡ Some r.slot) (sym r.changed) (rw (get-insert nat_cmp_total, ties id) refl) in
-    let chains = ap length (back.chains r.slot slot) ∙ length-entered w.chains (lits_at v.clauses id) r.slot in
     let none : level_after a.steps ≡ 0 = ap (λ z. level_after z.trail) is ∙ level in
     record {
       sound = subst (λ z. IsEngine (record { clauses = z; trail = a.steps; vars = a.vars })) (sym at)
           (IsEngine-put (engine_of w.clauses a.steps a.vars) id (record { literals = seen.literals_at (clauses_of w.clauses) id; slot = Some r.slot }) h.sound (no_reason-slotless (engine_of w.clauses a.steps a.vars) id off)
           (λ s so q to. r.fresh q (sym (slot_of-clauses_of w.clauses q) ∙ to ∙ sym so)) (λ l c. literals-reserved (engine_of w.clauses a.steps a.vars) id l h.sound c));
-      wide = let g = h.wide in omega (arith, g, chains);
+      wide = let g = h.wide in omega (arith, g, long);
       shorts = shorts_pushed (clauses_of w.clauses) (clauses_of v.clauses) ids id _ at h.shorts;
       now = mark_pushed w.clauses v.clauses (literals a.steps) head short_head ids id _ r.changed h.now;
       counted = h.counted;
@@ -53,10 +47,10 @@ inside_back_listed w v a head ids short_head levels room e id h is level back we
 
 -- where nothing follows of the clause, the heads and the ids may stay
 pub inside_back_resting : (w v u : Watched) (a : Assigned) (head : ℕ) (ids : List ℕ) (short_head : ℕ) (levels : List Heads) (room : ℕ) (e : EngineView) (id : ℕ) → IsInside w a head ids short_head levels room
-    → engine_of w.clauses a.steps a.vars ≡ e → level_after e.trail ≡ 0 → IsRestoredWatched w id v → IsTrue (held.is_weakened w.clauses id) → IsMoved (literals a.steps) v.clauses u.clauses → length u.chains ≡ length v.chains → IsWatched u
+    → engine_of w.clauses a.steps a.vars ≡ e → level_after e.trail ≡ 0 → held.IsRestored w.clauses id v.clauses → IsTrue (held.is_weakened w.clauses id) → length v.lists ≡ length w.lists → IsMoved (literals a.steps) v.clauses u.clauses → length u.lists ≡ length v.lists → IsWatched u
     → IsTrue (is_some (slot_at u.clauses id)) → ((q s : ℕ) → slot_at u.clauses id ≡ Some s → slot_at u.clauses q ≡ Some s → Rests (literals a.steps) (lits_at u.clauses q)) → IsInside u a head ids short_head levels room
-inside_back_resting w v u a head ids short_head levels room e id h is level back weak moved wide k on rest =
+inside_back_resting w v u a head ids short_head levels room e id h is level r weak long moved wide k on rest =
     let s = active_slot (slot_at u.clauses id) on in
     inside_popped u a head ids short_head levels room id s.0
-    (inside_moved v u a head (ids ++ id ∷ []) short_head levels room (inside_back_listed w v a head ids short_head levels room e id h is level back weak) moved wide)
+    (inside_moved v u a head (ids ++ id ∷ []) short_head levels room (inside_back_listed w v a head ids short_head levels room e id h is level r weak long) moved wide)
     (ap (λ z. level_after z.trail) is ∙ level) h.now.ids_in k s.1 (λ q to. rest q s.0 s.1 to)

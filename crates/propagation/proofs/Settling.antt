@@ -5,10 +5,10 @@ use Rattle.lits.specs.Literal.{neg}
 use Rattle.session_rules.specs.Logic.{has, is_falsified, is_unit}
 use Rattle.lits.proofs.Members.{has_from}
 use Rattle.clause_store.specs.Clauses.{Store, IsStore, slot_at, lits_at}
-use Rattle.watch_chains.specs.Chains.{Watched, chain_at}
+use Rattle.watch_lists.specs.Watched.{Watched}
 use Rattle.propagation.specs.Clauses.{clauses_of, slot_of, active_at}
 use Rattle.propagation.specs.Engine.{IsReason}
-use Rattle.propagation.specs.Watching.{HasTwo, IsCovered, IsMoved, IsPair, IsLeftOut}
+use Rattle.propagation.specs.Watching.{HasTwo, IsCovered, IsMoved, IsPair}
 use Rattle.propagation.proofs.Changes.{cases}
 use Rattle.propagation.proofs.Scan.{all_by_index, contains_at, false_at, unit_at}
 use Rattle.propagation.proofs.Covering.{has_take}
@@ -39,19 +39,19 @@ unit_found m id s trues ls i l k at same lt e before after = unit_at m id s l tr
 
 -- ---- Two literals that aren't false
 
-pub record Pairs (trues : List ℕ) (old new : Watched) (id s i j : ℕ) : Type 0 where
-  pub pair : IsPair id s i j old new
+pub record Pairs (trues : List ℕ) (old new : Watched) (id i j : ℕ) : Type 0 where
+  pub pair : IsPair id i j old new
   pub order : i < j
   pub within : j < length (lits_at old.clauses id)
   pub one : has trues (neg (get_or (lits_at old.clauses id) i 0)) ≡ false
   pub two : has trues (neg (get_or (lits_at old.clauses id) j 0)) ≡ false
 
-module _ (trues : List ℕ) (old new : Watched) (id s i j : ℕ) (p : Pairs trues old new id s i j) where
+module _ (trues : List ℕ) (old new : Watched) (id i j : ℕ) (p : Pairs trues old new id i j) where
   pub pair_two : HasTwo trues (lits_at new.clauses id)
   pair_two = record {
     long = let e = p.pair.order.long id in omega (arith, e, p.order, p.within);
-    one = ap (λ z. has trues (neg z)) p.pair.first ∙ p.one;
-    two = ap (λ z. has trues (neg z)) p.pair.second ∙ p.two;
+    one = elim p.pair.first_two [ inl e ↦ ap (λ z. has trues (neg z)) e.0 ∙ p.one | inr e ↦ ap (λ z. has trues (neg z)) e.0 ∙ p.two ];
+    two = elim p.pair.first_two [ inl e ↦ ap (λ z. has trues (neg z)) e.1 ∙ p.two | inr e ↦ ap (λ z. has trues (neg z)) e.1 ∙ p.one ];
   }
 
   pub pair_moved : IsMoved trues old.clauses new.clauses
@@ -68,8 +68,3 @@ module _ (trues : List ℕ) (old new : Watched) (id s i j : ℕ) (p : Pairs true
       | inr n ↦ subst (λ z. IsCovered ts h z) (sym (p.pair.order.others q n)) c
     ];
   }
-
-  pub pair_chains : (w : ℕ) → has trues (neg w) ≡ true → IsLeftOut s (chain_at old.chains w) (chain_at new.chains w)
-  pair_chains w f = p.pair.chains w
-      (λ e. both_ways _ p.one (subst (λ z. has trues (neg z) ≡ true) e f))
-      (λ e. both_ways _ p.two (subst (λ z. has trues (neg z) ≡ true) e f))

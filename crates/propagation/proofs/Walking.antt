@@ -1,240 +1,241 @@
--- A walk along the chain of a false literal.
-use Rattle.std.proofs.Common.{◌≡◌, ℕ, suc, zero, ◌+◌, ◌*◌, ◌<◌, ◌≤◌, ◌⊎◌, List, [], ◌∷◌, ◌++◌, length, take, get_or, Option, Some, None, refl, sym, ap, ◌∙◌, subst, inl, inr, arith, true, false, nat_eq, append_assoc, if◌then◌else◌, eq-eqb}
+-- A walk over the list of a false literal, from its end to its front.
+use Rattle.std.proofs.Common.{◌≡◌, ℕ, suc, zero, ◌+◌, ◌-◌, ◌*◌, ◌<◌, ◌≤◌, ◌⊎◌, List, [], ◌∷◌, ◌++◌, length, take, get_or, Some, refl, sym, ap, ◌∙◌, subst, inl, inr, arith, true, false, append_assoc}
 use Rattle.std.specs.Prelude.{slice_index}
-use Rattle.std.proofs.lemmas.List.{append-nil, get_or_default}
+use Rattle.std.proofs.lemmas.List.{get_or_default, take-append-le, length-take, length-take-le}
+use Rattle.std.proofs.Math.Seq.{take-length}
 use Rattle.std.proofs.lemmas.Bool.{cases_Bool, both_ways, false_from_ne_true}
-use Rattle.std.proofs.lemmas.Option.{same_Some, none-some}
 use Rattle.lits.specs.Literal.{var, neg}
 use Rattle.session_rules.specs.Logic.{has}
+use Rattle.lits.proofs.Members.{has_from}
 use Rattle.clause_store.specs.Clauses.{IsOnce, slot_at, lits_at}
-use Rattle.watch_chains.specs.Runs.{without}
-use Rattle.watch_chains.specs.Chains.{Watched, IsWatched, chain_at, is_watch, front_of, behind}
-use Rattle.watch_chains.proofs.Running.{has-here, has-there, member_cases, differs, without-absent}
-use Rattle.watch_chains.proofs.Two.{first_watch, second_watch, watch_cases}
+use Rattle.watch_lists.specs.Watch.{WatchView}
+use Rattle.watch_lists.specs.Watched.{Watched, IsWatched, is_watch, list_at, watch_at, watchers, slots_in}
+use Rattle.watch_lists.proofs.Members.{member_cases, unlike}
+use Rattle.watch_lists.proofs.FirstTwo.{first_watch, second_watch, firsts-apart, once-lits}
 use Rattle.propagation.specs.declared.Step.{Step}
 use Rattle.propagation.specs.Assigned.{Assigned}
 use Rattle.propagation.specs.Engine.{EngineView, literals, IsEngine}
-use Rattle.propagation.specs.Watching.{engine_of, IsSatisfied, HasTwo, IsDone, IsReady, IsLeftOut, Advances}
-use Rattle.propagation.proofs.Covering.{has_more, take_next}
+use Rattle.propagation.specs.Watching.{engine_of, IsSatisfied, HasTwo, IsCovered, IsReady, IsRewatched, IsPassed, Advances}
+use Rattle.propagation.proofs.Changes.{cases}
+use Rattle.propagation.proofs.Covering.{has_more, has_take, take_next, covered_more}
 use Rattle.propagation.proofs.Trail.{length-literals}
 use Rattle.propagation.proofs.Scan.{contains_at}
-use Rattle.lits.proofs.Members.{has_from}
-use Rattle.propagation.proofs.Advancing.{advances_then, advances_settled, moved_none, longer, satisfied_still, ready_still}
+use Rattle.propagation.proofs.Passing.{StandsAt, slot_place, slot_early}
+use Rattle.propagation.proofs.Advancing.{advances_then, advances_settled, moved_none, longer, length_longer, satisfied_still, ready_still}
 
--- ---- A chain cut in two
-
--- what is still to come of a chain, where this slot is next
-abbrev pub from_slot : ℕ → List ℕ → List ℕ
-from_slot s [] = []
-from_slot s (t ∷ ts) = if nat_eq s t then t ∷ ts else from_slot s ts
-
-abbrev pub to_come : Option ℕ → List ℕ → List ℕ
-to_come None ss = []
-to_come (Some s) ss = from_slot s ss
-
-apart : (t s : ℕ) (ts more : List ℕ) → has (ts ++ s ∷ more) t ≡ false → nat_eq s t ≡ false
-apart t s ts more n = differs s t (λ e. both_ways _ n (subst (λ z. has (ts ++ s ∷ more) z ≡ true) e (middle ts)))
-  where
-    middle : (xs : List ℕ) → has (xs ++ s ∷ more) s ≡ true
-    middle [] = has-here s more
-    middle (x ∷ xs) = has-there x s (xs ++ s ∷ more) (middle xs)
-
-pub come_split : (passed : List ℕ) (s : ℕ) (more : List ℕ) → IsOnce (passed ++ s ∷ more) → from_slot s (passed ++ s ∷ more) ≡ s ∷ more
-come_split [] s more o = let e : nat_eq s s ≡ true = eq-eqb s s refl in rw e refl
-come_split (t ∷ ts) s more o = rw (apart t s ts more o.0) (come_split ts s more o.1)
-
-pub behind_split : (passed : List ℕ) (s : ℕ) (more : List ℕ) → IsOnce (passed ++ s ∷ more) → behind s (passed ++ s ∷ more) ≡ front_of more
-behind_split [] s more o = let e : nat_eq s s ≡ true = eq-eqb s s refl in rw e refl
-behind_split (t ∷ ts) s more o = rw (apart t s ts more o.0) (behind_split ts s more o.1)
-
-pub without_split : (passed : List ℕ) (s : ℕ) (more : List ℕ) → IsOnce (passed ++ s ∷ more) → without s (passed ++ s ∷ more) ≡ passed ++ more
-without_split [] s more o = let e : nat_eq s s ≡ true = eq-eqb s s refl in rw e (without-absent s more o.0)
-without_split (t ∷ ts) s more o = rw (apart t s ts more o.0) (ap (λ z. t ∷ z) (without_split ts s more o.1))
-
-come_front : (passed rest : List ℕ) → IsOnce (passed ++ rest) → to_come (front_of rest) (passed ++ rest) ≡ rest
-come_front passed [] o = refl
-come_front passed (s ∷ more) o = come_split passed s more o
-
-has_middle : (passed : List ℕ) (s : ℕ) (more : List ℕ) → has (passed ++ s ∷ more) s ≡ true
-has_middle [] s more = has-here s more
-has_middle (t ∷ ts) s more = has-there t s (ts ++ s ∷ more) (has_middle ts s more)
-
-member_end : (passed : List ℕ) (s t : ℕ) → has (passed ++ s ∷ []) t ≡ true → (has passed t ≡ true) ⊎ (t ≡ s)
-member_end [] s t m = elim (member_cases s t [] m) [ inl e ↦ inr e | inr n ↦ inl n ]
-member_end (x ∷ xs) s t m = elim (member_cases x t (xs ++ s ∷ []) m) [
-  | inl e ↦ inl (subst (λ z. has (x ∷ xs) z ≡ true) (sym e) (has-here x xs))
-  | inr n ↦ elim (member_end xs s t n) [ inl y ↦ inl (has-there x t xs y) | inr y ↦ inr y ]
-]
-
-pub record Split (rest : List ℕ) (s : ℕ) : Type 0 where
-  pub more : List ℕ
-  pub is : rest ≡ s ∷ more
-
-front_split : (rest : List ℕ) (s : ℕ) → Some s ≡ front_of rest → Split rest s
-front_split [] s e = absurd (none-some s (sym e))
-front_split (t ∷ ts) s e = record { more = ts; is = ap (λ z. z ∷ ts) (same_Some _ _ (sym e)) }
-
--- ---- The walk
-
--- the clauses that were passed have a true literal; the others are still to come
-pub record IsWalking (w0 w : Watched) (a0 a : Assigned) (head l : ℕ) (at : Option ℕ) : Type 0 where
-  pub steps : Advances w0 w a0 a
-  pub ready : IsReady w.clauses (literals a.steps) head []
-  pub sound : IsWatched w
-  pub falsified : has (literals a.steps) (neg l) ≡ true
-  pub passed : List ℕ
-  pub rest : List ℕ
-  pub chain : chain_at w.chains l ≡ passed ++ rest
-  pub front : at ≡ front_of rest
-  pub done : (id t : ℕ) → has passed t ≡ true → slot_at w.clauses id ≡ Some t → IsSatisfied (literals a.steps) (lits_at w.clauses id)
-
-pub walk_begins : (w : Watched) (a : Assigned) (head l : ℕ) (at : Option ℕ) → IsEngine (engine_of w.clauses a.steps a.vars) → IsReady w.clauses (literals a.steps) head [] → IsWatched w → has (literals a.steps) (neg l) ≡ true
-    → at ≡ front_of (chain_at w.chains l) → IsWalking w w a a head l at
-walk_begins w a head l at k r sound f e = record {
-  steps = advances_settled w w a k (moved_none (literals a.steps) w.clauses) refl;
-  ready = r;
-  sound = sound;
-  falsified = f;
-  passed = [];
-  rest = chain_at w.chains l;
-  chain = refl;
-  front = e;
-  done = λ id t m s. absurd (let g : false ≡ true = m in cc g);
-}
-
-pub walking_here : (w0 w : Watched) (a0 a : Assigned) (head l s : ℕ) → IsWalking w0 w a0 a head l (Some s) → has (chain_at w.chains l) s ≡ true
-walking_here w0 w a0 a head l s v = let p = front_split v.rest s v.front in
-    subst (λ z. has z s ≡ true) (sym (v.chain ∙ ap (λ z. v.passed ++ z) p.is)) (has_middle v.passed s p.more)
-
--- one visit of a walk
-pub record Visits (w0 w w' : Watched) (a0 a a' : Assigned) (head l s : ℕ) : Type 0 where
-  pub walking : IsWalking w0 w a0 a head l (Some s)
-  pub steps : Advances w w' a a'
-  pub within : head < length a.steps
-  pub sound : IsWatched w'
-  pub chains : IsLeftOut s (chain_at w.chains l) (chain_at w'.chains l)
-
-module _ (w0 w w' : Watched) (a0 a a' : Assigned) (head l s : ℕ) (v : Visits w0 w w' a0 a a' head l s) where
-  split : Split v.walking.rest s
-  split = front_split v.walking.rest s v.walking.front
-
-  chain : chain_at w.chains l ≡ v.walking.passed ++ s ∷ split.more
-  chain = v.walking.chain ∙ ap (λ z. v.walking.passed ++ z) split.is
-
-  once : IsOnce (v.walking.passed ++ s ∷ split.more)
-  once = subst IsOnce chain (v.walking.sound.once l)
-
-  visits_here : has (chain_at w.chains l) s ≡ true
-  visits_here = walking_here w0 w a0 a head l s v.walking
-
-  pub visits_steps : Advances w0 w' a0 a'
-  visits_steps = advances_then w0 w w' a0 a a' v.walking.steps v.steps
-
-  pub visits_ready : IsReady w'.clauses (literals a'.steps) head []
-  visits_ready = ready_still w w' a a' v.steps head [] (let lt = v.within in omega (arith, lt)) v.walking.ready
-
-  before : (id t : ℕ) → has v.walking.passed t ≡ true → slot_at w'.clauses id ≡ Some t → IsSatisfied (literals a'.steps) (lits_at w'.clauses id)
-  before id t m at = satisfied_still w w' a a' v.steps id (v.walking.done id t m (sym (v.steps.moved.slots id) ∙ at))
-
-  still_false : has (literals a'.steps) (neg l) ≡ true
-  still_false = subst (λ z. has z (neg l) ≡ true) (sym (longer w w' a a' v.steps)) (has_more (literals a.steps) (literals v.steps.more) (neg l) v.walking.falsified)
-
-  next : (at : Option ℕ) → at ≡ behind s (chain_at w.chains l) → at ≡ front_of split.more
-  next at e = e ∙ ap (behind s) chain ∙ behind_split v.walking.passed s split.more once
-
-  -- a clause that watches the false literal still has a true one
-  satisfied : ((id : ℕ) → slot_at w'.clauses id ≡ Some s → IsDone (literals a.steps) (literals a'.steps) (lits_at w'.clauses id)) → has (chain_at w'.chains l) s ≡ true
-      → (id : ℕ) → slot_at w'.clauses id ≡ Some s → IsSatisfied (literals a'.steps) (lits_at w'.clauses id)
-  satisfied d m id at = elim (d id at) [
-    | inl y ↦ y
-    | inr t ↦ absurd (elim (watch_cases (lits_at w'.clauses id) l (sym (v.sound.watches id s l at) ∙ m)) [
-      | inl e ↦ both_ways _ t.one (subst (λ z. has (literals a.steps) (neg z) ≡ true) (sym e) v.walking.falsified)
-      | inr e ↦ both_ways _ t.two (subst (λ z. has (literals a.steps) (neg z) ≡ true) (sym e) v.walking.falsified)
-    ])
-  ]
-
-  pub visits_next : (at : Option ℕ) → at ≡ behind s (chain_at w.chains l) → ((id : ℕ) → slot_at w'.clauses id ≡ Some s → IsDone (literals a.steps) (literals a'.steps) (lits_at w'.clauses id)) → IsWalking w0 w' a0 a' head l at
-  visits_next at e d = elim v.chains [
-    | inl same ↦
-        let m : has (chain_at w'.chains l) s ≡ true = subst (λ z. has z s ≡ true) (sym same) visits_here in
-        record {
-          steps = visits_steps;
-          ready = visits_ready;
-          sound = v.sound;
-          falsified = still_false;
-          passed = v.walking.passed ++ s ∷ [];
-          rest = split.more;
-          chain = same ∙ chain ∙ sym (append_assoc v.walking.passed (s ∷ []) split.more);
-          front = next at e;
-          done = λ id t h k. elim (member_end v.walking.passed s t h) [
-            | inl y ↦ before id t y k
-            | inr y ↦ satisfied d m id (k ∙ ap Some y)
-          ];
-        }
-    | inr out ↦ record {
-      steps = visits_steps;
-      ready = visits_ready;
-      sound = v.sound;
-      falsified = still_false;
-      passed = v.walking.passed;
-      rest = split.more;
-      chain = out ∙ ap (without s) chain ∙ without_split v.walking.passed s split.more once;
-      front = next at e;
-      done = before;
-    }
-  ]
-
-  pub visits_fewer : (at : Option ℕ) → at ≡ behind s (chain_at w.chains l) → length (to_come at (chain_at w'.chains l)) < length (to_come (Some s) (chain_at w.chains l))
-  visits_fewer at e =
-      let old : to_come (Some s) (chain_at w.chains l) ≡ s ∷ split.more = ap (from_slot s) chain ∙ come_split v.walking.passed s split.more once in
-      subst (λ z. length (to_come at (chain_at w'.chains l)) < length z) (sym old) (subst (λ z. length z < suc (length split.more)) (sym new) (omega arith))
-    where
-      new : to_come at (chain_at w'.chains l) ≡ split.more
-      new = elim v.chains [
-        | inl same ↦
-            let c : chain_at w'.chains l ≡ (v.walking.passed ++ s ∷ []) ++ split.more = same ∙ chain ∙ sym (append_assoc v.walking.passed (s ∷ []) split.more) in
-            ap (λ z. to_come z (chain_at w'.chains l)) (next at e) ∙ ap (to_come (front_of split.more)) c ∙ come_front (v.walking.passed ++ s ∷ []) split.more (subst IsOnce c (v.sound.once l))
-        | inr out ↦
-            let c : chain_at w'.chains l ≡ v.walking.passed ++ split.more = out ∙ ap (without s) chain ∙ without_split v.walking.passed s split.more once in
-            ap (λ z. to_come z (chain_at w'.chains l)) (next at e) ∙ ap (to_come (front_of split.more)) c ∙ come_front v.walking.passed split.more (subst IsOnce c (v.sound.once l))
-      ]
-
--- ---- The end
+-- ---- One clause
 
 neg_twice : (x : ℕ) → neg (neg x) ≡ x
 neg_twice x = omega arith
 
-rest_none : (rest : List ℕ) → None ≡ front_of rest → rest ≡ []
-rest_none [] e = refl
-rest_none (s ∷ ss) e = absurd (none-some s e)
-
--- the literal of the trail at this place is propagated
-pub walk_ends : (w0 w : Watched) (a0 a : Assigned) (head l : ℕ) → IsWalking w0 w a0 a head l None → neg (get_or (literals a.steps) head 0) ≡ l → IsReady w.clauses (literals a.steps) (head + 1) []
-walk_ends w0 w a0 a head l v is id s at = elim (cases_Bool (has (chain_at w.chains l) s)) [
-  | inl y ↦ inr (inl (v.done id s (subst (λ z. has z s ≡ true) (v.chain ∙ ap (λ z. v.passed ++ z) (rest_none v.rest v.front) ∙ append-nil v.passed) y) at))
-  | inr n ↦ elim (v.ready id s at) [
-    | inl none ↦ absurd (let g : false ≡ true = none in cc g)
-    | inr c ↦ inr (elim c [
-      | inl y ↦ inl y
-      | inr t ↦ inr (record {
-        long = t.long;
-        one = false_from_ne_true _ (λ e. clash id s at n t (slice_index (lits_at w.clauses id) 0) (first_watch (lits_at w.clauses id) t.long) t.one e);
-        two = false_from_ne_true _ (λ e. clash id s at n t (slice_index (lits_at w.clauses id) 1) (second_watch (lits_at w.clauses id) t.long) t.two e);
-      })
+-- a literal that isn't the next one to be propagated
+next_apart : (trues : List ℕ) (head l x : ℕ) → neg (get_or trues head 0) ≡ l → has (take head trues) (neg x) ≡ false → (x ≡ l → ⊥) → has (take (head + 1) trues) (neg x) ≡ false
+next_apart trues head l x is f n = false_from_ne_true _ (λ e.
+    let m : has (take (suc head) trues) (neg x) ≡ true = subst (λ z. has (take z trues) (neg x) ≡ true) (let g : head + 1 ≡ suc head = omega arith in g) e in
+    elim (take_next head (neg x) trues m) [
+      | inl y ↦ both_ways _ f y
+      | inr y ↦ n (sym (neg_twice x) ∙ ap neg y ∙ is)
     ])
-  ]
+
+-- a clause that doesn't watch the false literal
+pub unwatched : (trues ls : List ℕ) (head l : ℕ) → neg (get_or trues head 0) ≡ l → is_watch ls l ≡ false → IsCovered trues head ls → IsCovered trues (head + 1) ls
+unwatched trues ls head l is n (inl s) = inl s
+unwatched trues ls head l is n (inr t) = inr (record {
+  long = t.long;
+  one = next_apart trues head l (slice_index ls 0) is t.one (λ e. both_ways _ n (subst (λ z. is_watch ls z ≡ true) e (first_watch ls t.long)));
+  two = next_apart trues head l (slice_index ls 1) is t.two (λ e. both_ways _ n (subst (λ z. is_watch ls z ≡ true) e (second_watch ls t.long)));
+})
+
+-- the two places are different, and so are their literals
+two_apart : (ls : List ℕ) (p : ℕ) → IsOnce ls → 2 ≤ length ls → p ≤ 1 → slice_index ls (1 - p) ≡ slice_index ls p → ⊥
+two_apart ls p once long low e = elim (cases p 0) [
+  | inl y ↦ differ (sym (sym (ap (λ z. slice_index ls (1 - z)) y) ∙ e ∙ ap (slice_index ls) y))
+  | inr n ↦ let one : p ≡ 1 = omega arith in differ (sym (ap (λ z. slice_index ls (1 - z)) one) ∙ e ∙ ap (slice_index ls) one)
 ]
   where
-    clash : (id s : ℕ) → slot_at w.clauses id ≡ Some s → has (chain_at w.chains l) s ≡ false → HasTwo (take head (literals a.steps)) (lits_at w.clauses id) → (x : ℕ) → is_watch (lits_at w.clauses id) x ≡ true
-        → has (take head (literals a.steps)) (neg x) ≡ false → has (take (head + 1) (literals a.steps)) (neg x) ≡ true → ⊥
-    clash id s at n t x watch f m =
-        let m2 : has (take (suc head) (literals a.steps)) (neg x) ≡ true = subst (λ z. has (take z (literals a.steps)) (neg x) ≡ true) (let g : head + 1 ≡ suc head = omega arith in g) m in
-        elim (take_next head (neg x) (literals a.steps) m2) [
-          | inl y ↦ both_ways _ f y
-          | inr y ↦
-              let same : x ≡ l = sym (neg_twice x) ∙ ap neg y ∙ is in
-              both_ways _ n (v.sound.watches id s l at ∙ subst (λ z. is_watch (lits_at w.clauses id) z ≡ true) same watch)
-        ]
+    differ : slice_index ls 0 ≡ slice_index ls 1 → ⊥
+    differ f = unlike (slice_index ls 1) (slice_index ls 0) (firsts-apart ls once long) (sym f)
+
+-- the clause of an entry that was passed
+pub record Passes (before trues old new : List ℕ) (head l p : ℕ) : Type 0 where
+  pub more : (x : ℕ) → has (take (head + 1) trues) x ≡ true → has before x ≡ true
+  pub first : (x : ℕ) → has (take head trues) x ≡ true → has (take head before) x ≡ true
+  pub is : neg (get_or trues head 0) ≡ l
+  pub once : IsOnce old
+  pub low : p ≤ 1
+  pub here : slice_index old p ≡ l
+  pub two : HasTwo (take head before) old
+
+module _ (before trues old new : List ℕ) (head l p : ℕ) (k : Passes before trues old new head l p) (r : IsRewatched before old new p) where
+  other_kept : has (take head before) (neg (slice_index old (1 - p))) ≡ false
+  other_kept = elim (cases p 0) [
+    | inl y ↦ ap (λ z. has (take head before) (neg (slice_index old (1 - z)))) y ∙ k.two.two
+    | inr n ↦ let one : p ≡ 1 = (let low = k.low in omega (arith, low)) in ap (λ z. has (take head before) (neg (slice_index old (1 - z)))) one ∙ k.two.one
+  ]
+
+  other_free : has (take (head + 1) trues) (neg (slice_index new (1 - p))) ≡ false
+  other_free = ap (λ z. has (take (head + 1) trues) (neg z)) r.other ∙ next_apart trues head l (slice_index old (1 - p)) k.is
+      (false_from_ne_true _ (λ e. both_ways _ other_kept (k.first _ e)))
+      (λ e. two_apart old p k.once k.two.long k.low (e ∙ sym k.here))
+
+  this_free : has (take (head + 1) trues) (neg (slice_index new p)) ≡ false
+  this_free = false_from_ne_true _ (λ e. both_ways _ r.free (k.more _ e))
+
+  pub rewatched_two : HasTwo (take (head + 1) trues) new
+  rewatched_two = record {
+    long = r.long;
+    one = elim (cases p 0) [
+      | inl y ↦ ap (λ z. has (take (head + 1) trues) (neg (slice_index new z))) (sym y) ∙ this_free
+      | inr n ↦ let one : 0 ≡ 1 - p = (let low = k.low in omega (arith, low)) in ap (λ z. has (take (head + 1) trues) (neg (slice_index new z))) one ∙ other_free
+    ];
+    two = elim (cases p 0) [
+      | inl y ↦ let one : 1 ≡ 1 - p = omega (arith, y) in ap (λ z. has (take (head + 1) trues) (neg (slice_index new z))) one ∙ other_free
+      | inr n ↦ let one : 1 ≡ p = (let low = k.low in omega (arith, low)) in ap (λ z. has (take (head + 1) trues) (neg (slice_index new z))) one ∙ this_free
+    ];
+  }
+
+-- ---- The walk
+
+-- clauses that aren't in the list's beginning are covered at the next place too
+pub record IsWalking (w0 w : Watched) (a0 a : Assigned) (head l end : ℕ) : Type 0 where
+  pub steps : Advances w0 w a0 a
+  pub ready : IsReady w.clauses (literals a.steps) head []
+  pub sound : IsWatched w
+  pub inside : head < length a.steps
+  pub falsified : has (literals a.steps) (neg l) ≡ true
+  pub is : neg (get_or (literals a.steps) head 0) ≡ l
+  pub within : end ≤ length (list_at w.lists l)
+  pub passed : (id t : ℕ) → slot_at w.clauses id ≡ Some t → (has (slots_in (take end (list_at w.lists l))) t ≡ true) ⊎ IsCovered (literals a.steps) (head + 1) (lits_at w.clauses id)
+
+pub walk_begins : (w : Watched) (a : Assigned) (head l end : ℕ) → IsEngine (engine_of w.clauses a.steps a.vars) → IsReady w.clauses (literals a.steps) head [] → IsWatched w → head < length a.steps → has (literals a.steps) (neg l) ≡ true
+    → neg (get_or (literals a.steps) head 0) ≡ l → end ≡ length (list_at w.lists l) → IsWalking w w a a head l end
+walk_begins w a head l end k r sound lt f is e = record {
+  steps = advances_settled w w a k (moved_none (literals a.steps) w.clauses) refl;
+  ready = r;
+  sound = sound;
+  inside = lt;
+  falsified = f;
+  is = is;
+  within = omega (arith, e);
+  passed = λ id t at. elim (cases_Bool (has (watchers w l) t)) [
+    | inl y ↦ inl (subst (λ z. has (slots_in z) t ≡ true) (sym (ap (λ z. take z (list_at w.lists l)) e ∙ take-length (list_at w.lists l))) y)
+    | inr n ↦ elim (r id t at) [
+      | inl none ↦ absurd (let g : false ≡ true = none in cc g)
+      | inr c ↦ inr (unwatched (literals a.steps) (lits_at w.clauses id) head l is (sym (sound.watches id t l at) ∙ n) c)
+    ]
+  ];
+}
+
+-- entries whose blockers are true are passed over
+module _ (w0 w : Watched) (a0 a : Assigned) (head l end : ℕ) (v : IsWalking w0 w a0 a head l end) where
+  pub blocked_true : (id t k : ℕ) → slot_at w.clauses id ≡ Some t → k < length (list_at w.lists l) → (watch_at w l k).slot ≡ t → has (literals a.steps) (watch_at w l k).blocker ≡ true → IsSatisfied (literals a.steps) (lits_at w.clauses id)
+  blocked_true id t k at lt same y = ((watch_at w l k).blocker, (v.sound.entries id l k lt (at ∙ ap Some (sym same))).blocker, y)
+
+  -- the end
+  pub walk_ends : ((k : ℕ) → k < end → has (literals a.steps) (watch_at w l k).blocker ≡ true) → IsReady w.clauses (literals a.steps) (head + 1) []
+  walk_ends all id t at = elim (v.passed id t at) [
+    | inl y ↦ let p = slot_place end (list_at w.lists l) t y in inr (inl (blocked_true id t p.at at p.within p.slot (all p.at p.before)))
+    | inr c ↦ inr c
+  ]
+
+at_front : (xs ys : List ℕ) (i : ℕ) → i < length xs → get_or (xs ++ ys) i 0 ≡ get_or xs i 0
+at_front [] ys i h = absurd (omega arith)
+at_front (x ∷ xs) ys zero h = refl
+at_front (x ∷ xs) ys (suc i) h = at_front xs ys i (omega arith)
+
+fewer : (i : ℕ) (xs ys : List WatchView) → take i xs ≡ take i ys → i ≤ length ys → i ≤ length xs
+fewer i xs ys e le = let f = ap length e in let g = length-take-le i ys le in let h = length-take i xs in omega (arith, f, g, h)
+
+-- one visit of a walk
+pub record Visits (w0 w w' : Watched) (a0 a a' : Assigned) (head l end i : ℕ) : Type 0 where
+  pub walking : IsWalking w0 w a0 a head l end
+  pub before : i < end
+  pub open_after : (k : ℕ) → i < k → k < end → has (literals a.steps) (watch_at w l k).blocker ≡ true
+  pub steps : Advances w w' a a'
+  pub sound : IsWatched w'
+  pub front : take i (list_at w'.lists l) ≡ take i (list_at w.lists l)
+
+module _ (w0 w w' : Watched) (a0 a a' : Assigned) (head l end i : ℕ) (v : Visits w0 w w' a0 a a' head l end i) where
+  pub visits_steps : Advances w0 w' a0 a'
+  visits_steps = advances_then w0 w w' a0 a a' v.walking.steps v.steps
+
+  pub visits_ready : IsReady w'.clauses (literals a'.steps) head []
+  visits_ready = ready_still w w' a a' v.steps head [] (let lt = v.walking.inside in omega (arith, lt)) v.walking.ready
+
+  longer_trail : literals a'.steps ≡ literals a.steps ++ literals v.steps.more
+  longer_trail = longer w w' a a' v.steps
+
+  within_trail : head + 1 ≤ length (literals a.steps)
+  within_trail = let lt = v.walking.inside in let e = length-literals a.steps in omega (arith, lt, e)
+
+  still_false : has (literals a'.steps) (neg l) ≡ true
+  still_false = subst (λ z. has z (neg l) ≡ true) (sym longer_trail) (has_more (literals a.steps) (literals v.steps.more) (neg l) v.walking.falsified)
+
+  same_next : neg (get_or (literals a'.steps) head 0) ≡ l
+  same_next = ap (λ z. neg (get_or z head 0)) longer_trail ∙ ap neg (at_front (literals a.steps) (literals v.steps.more) head (let le = within_trail in omega (arith, le))) ∙ v.walking.is
+
+  same_take : (h : ℕ) → h ≤ length (literals a.steps) → take h (literals a'.steps) ≡ take h (literals a.steps)
+  same_take h le = ap (take h) longer_trail ∙ take-append-le h (literals a.steps) (literals v.steps.more) le
+
+  covered_still : (id : ℕ) → IsCovered (literals a.steps) (head + 1) (lits_at w.clauses id) → IsCovered (literals a'.steps) (head + 1) (lits_at w'.clauses id)
+  covered_still id c = subst (λ z. IsCovered z (head + 1) (lits_at w'.clauses id)) (sym longer_trail)
+      (covered_more (literals a.steps) (literals v.steps.more) (lits_at w'.clauses id) (head + 1) within_trail (v.steps.moved.kept id (head + 1) (literals a.steps) (λ x m. m) c))
+
+  index_in : i < length (list_at w.lists l)
+  index_in = let lt = v.before in let le = v.walking.within in omega (arith, lt, le)
+
+  -- the clause that was visited
+  visited : (id : ℕ) → slot_at w.clauses id ≡ Some (watch_at w l i).slot → IsPassed (literals a.steps) (literals a'.steps) (lits_at w.clauses id) (lits_at w'.clauses id) (watch_at w l i).place → IsCovered (literals a'.steps) (head + 1) (lits_at w'.clauses id)
+  visited id at (inl s) = inl s
+  visited id at (inr r) = elim (v.walking.ready id (watch_at w l i).slot at) [
+    | inl none ↦ absurd (let g : false ≡ true = none in cc g)
+    | inr c ↦ elim c [
+      | inl s ↦ inl (satisfied_still w w' a a' v.steps id s)
+      | inr t ↦
+          let e = v.walking.sound.entries id l i index_in at in
+          inr (rewatched_two (literals a.steps) (literals a'.steps) (lits_at w.clauses id) (lits_at w'.clauses id) head l (watch_at w l i).place (record {
+            more = λ x m. has_take (head + 1) x (literals a.steps) (subst (λ z. has z x ≡ true) (same_take (head + 1) within_trail) m);
+            first = λ x m. subst (λ z. has z x ≡ true) (same_take head (let le = within_trail in omega (arith, le))) m;
+            is = same_next;
+            once = once-lits w.clauses id (watch_at w l i).slot v.walking.sound.store at;
+            low = e.low;
+            here = e.lit;
+            two = t;
+          }) r)
+    ]
+  ]
+
+  -- the clause of an entry before the end
+  placed : ((id : ℕ) → slot_at w.clauses id ≡ Some (watch_at w l i).slot → IsPassed (literals a.steps) (literals a'.steps) (lits_at w.clauses id) (lits_at w'.clauses id) (watch_at w l i).place)
+      → (id t : ℕ) → slot_at w.clauses id ≡ Some t → StandsAt (list_at w.lists l) end t → (has (slots_in (take i (list_at w'.lists l))) t ≡ true) ⊎ IsCovered (literals a'.steps) (head + 1) (lits_at w'.clauses id)
+  placed d id t at p = elim (cases p.at i) [
+    | inl y ↦
+        let here : slot_at w.clauses id ≡ Some (watch_at w l i).slot = at ∙ ap Some (sym p.slot) ∙ ap (λ z. Some (watch_at w l z).slot) y in
+        inr (visited id here (d id here))
+    | inr n ↦ elim (order p.at n) [
+      | inl lt ↦ inl (subst (λ z. has (slots_in z) t ≡ true) (sym v.front) (subst (λ z. has (slots_in (take i (list_at w.lists l))) z ≡ true) p.slot (slot_early i (list_at w.lists l) p.at lt p.within)))
+      | inr gt ↦ inr (inl (satisfied_still w w' a a' v.steps id (blocked_true w0 w a0 a head l end v.walking id t p.at at p.within p.slot (v.open_after p.at gt p.before))))
+    ]
+  ]
+    where
+      order : (k : ℕ) → (k ≡ i → ⊥) → (k < i) ⊎ (i < k)
+      order k n = grind arith
+
+  pub visits_next : ((id : ℕ) → slot_at w.clauses id ≡ Some (watch_at w l i).slot → IsPassed (literals a.steps) (literals a'.steps) (lits_at w.clauses id) (lits_at w'.clauses id) (watch_at w l i).place) → IsWalking w0 w' a0 a' head l i
+  visits_next d = record {
+    steps = visits_steps;
+    ready = visits_ready;
+    sound = v.sound;
+    inside = let lt = v.walking.inside in let e = length_longer w w' a a' v.steps in omega (arith, lt, e);
+    falsified = still_false;
+    is = same_next;
+    within = fewer i (list_at w'.lists l) (list_at w.lists l) v.front (let lt = index_in in omega (arith, lt));
+    passed = λ id t at. let was : slot_at w.clauses id ≡ Some t = sym (v.steps.moved.slots id) ∙ at in
+        elim (v.walking.passed id t was) [
+          | inl y ↦ placed d id t was (slot_place end (list_at w.lists l) t y)
+          | inr c ↦ inr (covered_still id c)
+        ];
+  }
 
 -- ---- The literal that is propagated
 
@@ -270,14 +271,6 @@ module _ (ss : List Step) (ls : List ℕ) (head l w : ℕ) (at : IsAt ss ls head
 neg_within : (l n : ℕ) → var l ≤ n → neg l < 2 * n
 neg_within l n le = omega arith
 
+-- a false literal has a list
 pub first_within : (e : EngineView) (ls : List ℕ) (head l w n : ℕ) → IsEngine e → IsAt e.trail ls head l → w ≡ neg l → 2 * e.vars ≤ n → w < n
 first_within e ls head l w n k at is wide = let r = neg_within l e.vars (trail_reserved e l k (at_true e.trail ls head l w at is)) in omega arith
-
--- a walk's literal stays at its place
-pub ends_at : (w0 w : Watched) (a0 a : Assigned) (head l : ℕ) → Advances w0 w a0 a → head < length a0.steps → neg (get_or (literals a0.steps) head 0) ≡ l → neg (get_or (literals a.steps) head 0) ≡ l
-ends_at w0 w a0 a head l x lt is = ap neg (ap (λ z. get_or z head 0) (longer w0 w a0 a x) ∙ at_front (literals a0.steps) (literals x.more) head (let e = length-literals a0.steps in omega (arith, e))) ∙ is
-  where
-    at_front : (xs ys : List ℕ) (i : ℕ) → i < length xs → get_or (xs ++ ys) i 0 ≡ get_or xs i 0
-    at_front [] ys i h = absurd (omega arith)
-    at_front (x ∷ xs) ys zero h = refl
-    at_front (x ∷ xs) ys (suc i) h = at_front xs ys i (omega arith)

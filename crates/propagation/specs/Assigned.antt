@@ -1,7 +1,7 @@
 -- The true literals in their order, with the value of each literal and the level and the place of each by table.
-use Rattle.std.specs.Prelude.{nat_eq, map, ◌≡◌, ℕ, ◌*◌, ◌≤◌, Bool, true, false, List, [], ◌∷◌, ◌++◌, length, get_or, Option, None, Some, is_none, if◌then◌else◌, ◌+◌, ◌-◌, IsTrue, refl}
+use Rattle.std.specs.Prelude.{nat_eq, map, ◌≡◌, ℕ, ◌*◌, ◌≤◌, Bool, true, false, List, [], ◌∷◌, ◌++◌, length, get_or, Option, None, Some, is_none, if◌then◌else◌, ◌+◌, ◌-◌, ◌||◌, IsTrue, refl}
 use Rattle.std.specs.Coded.{Coded, code_by, coded×, coded_list, coded_ℕ}
-use Rattle.lits.specs.Literal.{max_var, var}
+use Rattle.lits.specs.Literal.{max_var, var, neg}
 use Rattle.session_rules.specs.Logic.{has}
 use Rattle.propagation.specs.declared.Step.{Step}
 use Rattle.propagation.specs.declared.assignment.Mark.{Mark}
@@ -78,6 +78,15 @@ value_of (value.False) = Some false
 -- each literal's value is in the table; it is free beyond it
 abbrev pub AreValues : List Step → List Value → Type 0
 AreValues steps values = (l : ℕ) → value_of (get_or values l value.Free) ≡ value_in (literals steps) l
+
+-- the entry of a literal where these literals and their negations are made free
+abbrev pub entry_without : List ℕ → List Value → ℕ → Value
+entry_without ls values l = if has ls l || has ls (neg l) then value.Free else get_or values l value.Free
+
+-- the table is another one where these literals and their negations are made free
+pub record AreFreed (old : List Value) (ls : List ℕ) (new : List Value) : Type 0 where
+  pub len : length new ≡ length old
+  pub entries : (l : ℕ) → get_or new l value.Free ≡ entry_without ls old l
 
 -- the mark of each true literal is in the table
 abbrev pub AreMarks : List Step → List Mark → Type 0

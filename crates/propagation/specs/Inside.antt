@@ -3,7 +3,7 @@ use Rattle.std.specs.Prelude.{◌≡◌, ◌≢◌, ℕ, ◌*◌, ◌<◌, ◌�
 use Rattle.std.specs.FinMap.{contains_key}
 use Rattle.session_rules.specs.Logic.{has}
 use Rattle.clause_store.specs.Clauses.{Store}
-use Rattle.watch_chains.specs.Chains.{Watched}
+use Rattle.watch_lists.specs.Watched.{Watched}
 use Rattle.propagation.specs.declared.Heads.{Heads}
 use Rattle.propagation.specs.Assigned.{Assigned}
 use Rattle.propagation.specs.Clauses.{Clauses, clauses_of, literals_at}
@@ -31,8 +31,8 @@ pub record IsMark (m : Store) (trues : List ℕ) (head : ℕ) (ids : List ℕ) (
 -- what holds inside every engine
 pub record IsInside (w : Watched) (a : Assigned) (head : ℕ) (ids : List ℕ) (short_head : ℕ) (levels : List Heads) (levels_room : ℕ) : Type 0 where
   pub sound : IsEngine (engine_of w.clauses a.steps a.vars)
-  -- each literal of a reserved variable has a chain
-  pub wide : 2 * a.vars ≤ length w.chains
+  -- each literal of a reserved variable has a list
+  pub wide : 2 * a.vars ≤ length w.lists
   pub shorts : AreShorts (clauses_of w.clauses) ids
   pub now : IsMark w.clauses (literals a.steps) head ids short_head
   -- for each level, how far its beginning had been propagated

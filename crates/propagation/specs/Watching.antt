@@ -1,11 +1,11 @@
 -- What propagation by watches keeps: of each active clause that was looked at a literal is true, or the first two of its
 -- list aren't the negations of literals that have been propagated.
-use Rattle.std.specs.Prelude.{◌≡◌, ◌≢◌, ℕ, ◌<◌, ◌≤◌, ◌⊎◌, true, false, List, ◌++◌, length, take, slice_index, Option, None, Some, IsTrue}
+use Rattle.std.specs.Prelude.{◌≡◌, ◌≢◌, ℕ, ◌-◌, ◌<◌, ◌≤◌, ◌⊎◌, true, false, List, ◌++◌, length, take, slice_index, Option, None, Some, IsTrue}
 use Rattle.lits.specs.Literal.{neg}
 use Rattle.session_rules.specs.Logic.{has, is_falsified}
 use Rattle.clause_store.specs.Clauses.{Store, slot_at, lits_at}
-use Rattle.watch_chains.specs.Runs.{without}
-use Rattle.watch_chains.specs.Chains.{Watched, chain_at}
+use Rattle.watch_lists.specs.Watch.{WatchView}
+use Rattle.watch_lists.specs.Watched.{Watched, entry_at}
 use Rattle.propagation.specs.declared.Step.{Step}
 use Rattle.propagation.specs.declared.Pending.{Pending}
 use Rattle.propagation.specs.declared.Pending.TheVariants as pending
@@ -60,39 +60,46 @@ pub record IsReordered (id : ℕ) (old new : Watched) : Type 0 where
   pub members : (q x : ℕ) → has (lits_at new.clauses q) x ≡ has (lits_at old.clauses q) x
   pub others : (q : ℕ) → q ≢ id → lits_at new.clauses q ≡ lits_at old.clauses q
   pub long : (q : ℕ) → length (lits_at new.clauses q) ≡ length (lits_at old.clauses q)
-  pub wide : length new.chains ≡ length old.chains
+  pub wide : length new.lists ≡ length old.lists
 
--- a chain is as it was, or without this slot
-abbrev pub IsLeftOut : ℕ → List ℕ → List ℕ → Type 0
-IsLeftOut s old new = (new ≡ old) ⊎ (new ≡ without s old)
-
--- the literal at a place is now the second
-pub record IsSecond (id s k : ℕ) (old new : Watched) : Type 0 where
+-- the literal at a place is now at one of the first two places, and the others are where they were
+pub record IsBrought (id place k : ℕ) (old new : Watched) : Type 0 where
   pub order : IsReordered id old new
-  pub first : slice_index (lits_at new.clauses id) 0 ≡ slice_index (lits_at old.clauses id) 0
-  pub second : slice_index (lits_at new.clauses id) 1 ≡ slice_index (lits_at old.clauses id) k
-  pub later : (j : ℕ) → 1 < j → j ≢ k → slice_index (lits_at new.clauses id) j ≡ slice_index (lits_at old.clauses id) j
-  pub chains : (w : ℕ) → w ≢ slice_index (lits_at old.clauses id) k → IsLeftOut s (chain_at old.chains w) (chain_at new.chains w)
+  pub here : slice_index (lits_at new.clauses id) place ≡ slice_index (lits_at old.clauses id) k
+  pub others : (j : ℕ) → j ≢ place → j ≢ k → slice_index (lits_at new.clauses id) j ≡ slice_index (lits_at old.clauses id) j
 
--- the literal at a place is now the first
-pub record IsFirst (id s k : ℕ) (old new : Watched) : Type 0 where
-  pub order : IsReordered id old new
-  pub first : slice_index (lits_at new.clauses id) 0 ≡ slice_index (lits_at old.clauses id) k
-  pub later : (j : ℕ) → 0 < j → k < j → slice_index (lits_at new.clauses id) j ≡ slice_index (lits_at old.clauses id) j
-  pub chains : (w : ℕ) → w ≢ slice_index (lits_at old.clauses id) k → IsLeftOut s (chain_at old.chains w) (chain_at new.chains w)
+-- the first two of a list are these
+abbrev pub AreFirst : List ℕ → ℕ → ℕ → Type 0
+AreFirst ls a b = (slice_index ls 0 ≡ a) × (slice_index ls 1 ≡ b)
 
--- the literals at two places are now the first two
-pub record IsPair (id s i j : ℕ) (old new : Watched) : Type 0 where
+-- the literals at two places are now the first two, in one order or the other
+pub record IsPair (id i j : ℕ) (old new : Watched) : Type 0 where
   pub order : IsReordered id old new
-  pub first : slice_index (lits_at new.clauses id) 0 ≡ slice_index (lits_at old.clauses id) i
-  pub second : slice_index (lits_at new.clauses id) 1 ≡ slice_index (lits_at old.clauses id) j
-  pub chains : (w : ℕ) → w ≢ slice_index (lits_at old.clauses id) i → w ≢ slice_index (lits_at old.clauses id) j → IsLeftOut s (chain_at old.chains w) (chain_at new.chains w)
+  pub first_two : AreFirst (lits_at new.clauses id) (slice_index (lits_at old.clauses id) i) (slice_index (lits_at old.clauses id) j) ⊎ AreFirst (lits_at new.clauses id) (slice_index (lits_at old.clauses id) j) (slice_index (lits_at old.clauses id) i)
 
 -- what looking at a clause told
 abbrev pub IsSettled : List ℕ → Watched → Watched → ℕ → Pending → Type 0
 IsSettled trues old new s (pending.False) = (new ≡ old) × ((id : ℕ) × (c : List ℕ) × (slot_of (clauses_of old.clauses) id ≡ Some s) × (active_at (clauses_of old.clauses) id ≡ Some c) × IsTrue (is_falsified trues c))
 IsSettled trues old new s (pending.Unit l) = (new ≡ old) × IsReason (clauses_of old.clauses) trues l s × IsFree trues l × ((id : ℕ) → slot_at old.clauses id ≡ Some s → has (lits_at old.clauses id) l ≡ true)
 IsSettled trues old new s (pending.Quiet) = (id : ℕ) → slot_at new.clauses id ≡ Some s → IsSatisfied trues (lits_at new.clauses id) ⊎ HasTwo trues (lits_at new.clauses id)
+
+-- ---- The entries of a list
+
+-- the last entry before this place whose blocker isn't true
+abbrev pub IsLastOpen : List ℕ → List WatchView → ℕ → Option ℕ → Type 0
+IsLastOpen trues es n None = (k : ℕ) → k < n → has trues (entry_at es k).blocker ≡ true
+IsLastOpen trues es n (Some i) = (i < n) × (has trues (entry_at es i).blocker ≡ false) × ((k : ℕ) → i < k → k < n → has trues (entry_at es k).blocker ≡ true)
+
+-- the literal at one of the first two places was exchanged for one that isn't false, and the other of the two stays
+pub record IsRewatched (trues old new : List ℕ) (place : ℕ) : Type 0 where
+  pub long : 2 ≤ length new
+  pub free : has trues (neg (slice_index new place)) ≡ false
+  pub other : slice_index new (1 - place) ≡ slice_index old (1 - place)
+
+-- a clause whose literal at one of the first two places is false needs no further look: one of its literals is true now, or it
+-- watches another in place of the false one
+abbrev pub IsPassed : List ℕ → List ℕ → List ℕ → List ℕ → ℕ → Type 0
+IsPassed before trues old new place = IsSatisfied trues new ⊎ IsRewatched before old new place
 
 -- ---- Steps of a propagation
 
@@ -111,5 +118,5 @@ pub record Advances (old new : Watched) (before after : Assigned) : Type 0 where
   pub grown : after.steps ≡ before.steps ++ more
   pub forced : level_after more ≡ 0
   pub vars : after.vars ≡ before.vars
-  pub wide : length new.chains ≡ length old.chains
+  pub wide : length new.lists ≡ length old.lists
   pub engine : IsEngine (engine_of new.clauses after.steps after.vars)

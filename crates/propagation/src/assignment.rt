@@ -1,12 +1,12 @@
 // The true literals in their order. The value of each literal lies in a table by its code, the level of a true one and the
 // place of its step in a table by its variable, so that no question goes over the trail.
 
-ghost use Rattle.std.specs.Prelude.{◌≡◌, ℕ, ◌≤◌, ◌<◌, List, [], length, max, OnOk, OnErr, IsTrue, is_some};
-ghost use Rattle.lits.specs.Literal.{max_var, neg};
+ghost use Rattle.std.specs.Prelude.{◌≡◌, ℕ, ◌≤◌, ◌<◌, List, [], length, take, drop, max, OnOk, OnErr, IsTrue, is_some};
+ghost use Rattle.lits.specs.Literal.{max_var, var, neg};
 ghost use Rattle.session_rules.specs.Logic.{has};
 ghost use Rattle.propagation.specs.declared.Step.{Step};
 ghost use Rattle.propagation.specs.Engine.{literals, level_after, level_behind, reason_in, value_in, up_to_level};
-ghost use Rattle.propagation.specs.Assigned.{Assigned, nothing_assigned, with_last, with_steps, with_reason, raised, lowered, value_of, IsNew};
+ghost use Rattle.propagation.specs.Assigned.{Assigned, nothing_assigned, with_last, with_steps, with_reason, raised, lowered, value_of, IsNew, AreFreed};
 
 use crate::Step;
 use clause_store::Slot;
@@ -45,6 +45,19 @@ fn lowered(level: u32, reason: Option<Slot>) -> u32
         level.saturating_sub(1)
     } else {
         level
+    }
+}
+
+/// Makes the literals from a place on free, and their negations.
+fn free_from(values: &mut [Value], lits: &[Lit], n: usize)
+    requires within { n ≤ length lits.now }
+    requires reach { (l : ℕ) → IsTrue (has (drop n lits.now) l) → (l < length values.old) × (neg l < length values.old) }
+    ensures { AreFreed values.old (drop n lits.now) values.new }
+{
+    let rest = &lits[n..];
+    for l in rest {
+        values[l.code() as usize] = Value::Free;
+        values[l.neg().code() as usize] = Value::Free;
     }
 }
 
@@ -128,25 +141,39 @@ impl Assignment {
         self.level = level;
     }
 
-    /// Takes the last literal off.
-    fn take_off(&mut self)
-        requires { 0 < length self.old.steps }
-        ensures { (s : Step) × (self.old ≡ with_last self.new s) }
+    /// How many steps stay where the literals of higher levels go.
+    fn kept(&self, level: u32) -> usize
+        ensures within { result ≤ length self.now.steps }
+        ensures steps { take result self.now.steps ≡ up_to_level level self.now.steps }
     {
-        if let Some(step) = self.steps.pop() {
-            let _ = self.lits.pop();
-            self.values[step.lit.code() as usize] = Value::Free;
-            self.values[step.lit.neg().code() as usize] = Value::Free;
-            self.level = lowered(self.level, step.reason);
+        let mut now = self.level;
+        let mut n = self.steps.len();
+        while now > level {
+            n -= 1;
+            now = lowered(now, self.steps[n].reason);
         }
+        n
+    }
+
+    /// Takes off all steps but the first so many, behind which this level is reached.
+    fn cut(&mut self, n: usize, level: u32)
+        requires within { n ≤ length self.old.steps }
+        requires level { level ≡ level_after (take n self.old.steps) }
+        ensures { self.new ≡ with_steps self.old (take n self.old.steps) }
+    {
+        free_from(&mut self.values, &self.lits, n);
+        self.steps.truncate(n);
+        self.lits.truncate(n);
+        self.level = level;
     }
 
     /// Takes off the literals of higher levels.
     pub(crate) fn back_to(&mut self, level: u32)
         ensures { self.new ≡ with_steps self.old (up_to_level level self.old.steps) }
     {
-        while self.level > level {
-            self.take_off();
+        if self.level > level {
+            let n = self.kept(level);
+            self.cut(n, level);
         }
     }
 
@@ -154,9 +181,7 @@ impl Assignment {
     pub(crate) fn clear(&mut self)
         ensures { self.new ≡ with_steps self.old [] }
     {
-        while self.lits.len() > 0 {
-            self.take_off();
-        }
+        self.cut(0, 0);
     }
 
     /// The true literals, oldest first.
@@ -203,23 +228,26 @@ impl Assignment {
         }
     }
 
-    /// Whether a literal is true.
+    /// Whether a literal of a reserved variable is true.
+    #[inline(always)]
     pub(crate) fn is_true(&self, l: Lit) -> bool
+        requires { var l ≤ self.now.vars }
         ensures { result ≡ has (literals self.now.steps) l }
     {
-        match self.entry(l) {
+        match self.values[l.code() as usize] {
             Value::True => true,
             Value::False => false,
             Value::Free => false,
         }
     }
 
-    /// Whether a literal is false.
+    /// Whether a literal of a reserved variable is false.
+    #[inline(always)]
     pub(crate) fn is_false(&self, l: Lit) -> bool
+        requires { var l ≤ self.now.vars }
         ensures { result ≡ has (literals self.now.steps) (neg l) }
     {
-        let _ = &self.values;
-        match self.entry(l) {
+        match self.values[l.code() as usize] {
             Value::False => true,
             Value::True => false,
             Value::Free => false,
@@ -240,11 +268,13 @@ impl Assignment {
     pub(crate) fn reason(&self, l: Lit) -> Option<Slot>
         ensures { result ≡ reason_in self.now.steps l }
     {
-        if self.is_true(l) {
-            let place = self.marks[(l.var() - 1) as usize].place as usize;
-            self.steps[place].reason
-        } else {
-            None
+        match self.entry(l) {
+            Value::True => {
+                let place = self.marks[(l.var() - 1) as usize].place as usize;
+                self.steps[place].reason
+            }
+            Value::False => None,
+            Value::Free => None,
         }
     }
 

@@ -9,10 +9,10 @@ ghost use Rattle.lits.specs.Literal.{max_var, neg};
 ghost use Rattle.session_rules.specs.Logic as logic;
 ghost use Rattle.std.specs.FinMap as finmap;
 ghost use Rattle.clause_store.specs.Clauses.{is_held, slot_at, lits_at, IsFresh, new_clause};
-ghost use Rattle.propagation.specs.Watching.{IsMoved, Rests};
+ghost use Rattle.propagation.specs.Watching.{engine_of, IsMoved, Rests};
 ghost use Rattle.propagation.specs.declared.Step.{Step};
 ghost use Rattle.propagation.specs.Clauses.{clauses_of, active, active_at, slot_of, literals_at, is_weakened};
-ghost use Rattle.watch_chains.specs.Chains.{AreReserved, IsWatched};
+ghost use Rattle.watch_lists.specs.Watched.{AreReserved, IsWatched};
 ghost use Rattle.propagation.specs.Inside.{AreShorts};
 ghost use Rattle.lits.specs.Literal.{var};
 ghost use Rattle.propagation.specs.Engine.{EngineView, literals, level_after, value_in, IsFree, IsStep, IsEngine, IsFalseAt, IsPropagated, Grows, with_step, with_trail, with_vars, with_clauses, active_clause, no_engine, reason_in, level_behind, IsNoReason, IsSomeReason, IsReasonOf, IsOtherUnit, IsRestored, weakened_clause, stands_before, ReasonsAre, AssumesFrom, IsOnce, up_to_level};
@@ -26,7 +26,7 @@ use clause_store::{Slot, Store, StoreFault};
 use lits::{Lit, LitSet};
 use std::alloc::{AllocError, Global};
 use std::marker::Model;
-use watch_chains::Watches;
+use watch_lists::Watches;
 
 /// A literal of the trail and the clause that forced it, or none where it was assumed.
 #[derive(Clone, Copy)]
@@ -421,8 +421,9 @@ impl Engine {
 
 /// Looks at the clause of an id. Whether it is active, nothing follows of it and it has two literals or more.
 fn rests_at(watches: &mut Watches, trail: &Assignment, id: u64) -> bool
+    requires { IsEngine (engine_of watches.old.clauses trail.now.steps trail.now.vars) }
     ensures moved { IsMoved (literals trail.now.steps) watches.old.clauses watches.new.clauses }
-    ensures wide { length watches.new.chains ≡ length watches.old.chains }
+    ensures wide { length watches.new.lists ≡ length watches.old.lists }
     ensures sound { IsWatched watches.new }
     ensures rests { IsTrue result → (q s : ℕ) → slot_at watches.new.clauses id ≡ Some s → slot_at watches.new.clauses q ≡ Some s → Rests (literals trail.now.steps) (lits_at watches.new.clauses q) }
     ensures active { IsTrue result → IsTrue (is_some (slot_at watches.new.clauses id)) }
@@ -453,7 +454,7 @@ fn add_listed(
     lits: &[Lit],
 ) -> Result<Slot, StoreFault>
     requires { AreReserved watches.old lits.now }
-    ensures wide { length watches.new.chains ≡ length watches.old.chains }
+    ensures wide { length watches.new.lists ≡ length watches.old.lists }
     ensures listed { IfOk result (λ _. ids.new.items ≡ ids.old.items ++ id ∷ []) }
     ensures fresh { IfOk result (λ s. IsFresh watches.old.clauses s) }
     ensures ok { IfOk result (λ s. watches.new.clauses ≡ finmap.insert watches.old.clauses id (new_clause lits.now s)) }

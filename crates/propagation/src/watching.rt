@@ -1,25 +1,26 @@
 // Propagation by watches. A clause of two or more literals watches the first two of its list: as long as neither of them
 // is false nothing follows of it, so only the clauses that watch a literal are visited when it becomes false. Most of them
-// have a true one beside it, which the chains tell without a look at the list.
+// have a true literal, which the lists tell by their blockers without a look at the clause.
 
-ghost use Rattle.std.specs.Prelude.{◌≡◌, ℕ, ◌+◌, ◌*◌, ◌<◌, ◌≤◌, [], List, Some, length, drop, slice_index, nat_lt, IfSome, IfNone, IsTrue, false};
+ghost use Rattle.std.specs.Prelude.{◌≡◌, ℕ, ◌+◌, ◌*◌, ◌-◌, ◌<◌, ◌≤◌, ◌⊎◌, [], List, Some, length, take, drop, slice_index, nat_lt, IfSome, IfNone, IsTrue, true, false};
 ghost use Rattle.std.specs.List.{filter};
-ghost use Rattle.lits.specs.Literal.{neg};
+ghost use Rattle.lits.specs.Literal.{var, neg};
 ghost use Rattle.session_rules.specs.Logic.{has};
 ghost use Rattle.clause_store.specs.Clauses.{slot_at, lits_at, IsSlot};
-ghost use Rattle.watch_chains.specs.Chains.{chain_at, IsWatched, AreWatches};
-ghost use Rattle.propagation.specs.Clauses.{clauses_of};
-ghost use Rattle.propagation.specs.Engine.{literals, IsEngine, IsFalseAt, IsReason};
-ghost use Rattle.propagation.specs.Watching.{engine_of, IsNextFree, IsSecond, IsFirst, IsPair, IsMoved, IsLeftOut, HasTwo, IsSettled, IsReady, IsDone, Rests, Advances};
+ghost use Rattle.watch_lists.specs.Watched.{IsWatched, list_at, entry_at, watch_at};
+ghost use Rattle.propagation.specs.Engine.{literals, IsEngine, IsFalseAt};
+ghost use Rattle.propagation.specs.Watching.{engine_of, IsNextFree, IsLastOpen, IsBrought, IsPair, IsMoved, IsSettled, IsReady, IsDone, IsPassed, Rests, Advances};
 
 use crate::Pending;
 use crate::assignment::Assignment;
 use clause_store::Slot;
 use lits::Lit;
-use watch_chains::Watches;
+use watch_lists::{Watch, Watches};
 
 /// The first place from this one on whose literal isn't false.
+#[inline(always)]
 fn next_not_false(trail: &Assignment, lits: &[Lit], from: usize) -> Option<usize>
+    requires { (k : ℕ) → k < length lits.now → var (slice_index lits.now k) ≤ trail.now.vars }
     ensures { IsNextFree (literals trail.now.steps) lits.now from result }
 {
     for k in from..lits.len() {
@@ -30,57 +31,46 @@ fn next_not_false(trail: &Assignment, lits: &[Lit], from: usize) -> Option<usize
     None
 }
 
-/// Brings the literal at a place from 1 on to the second place.
-fn put_second(watches: &mut Watches, slot: Slot, k: usize)
+/// Brings the literal at a place of a clause's list to one of the first two places, where it stands already or from a later one.
+fn bring(watches: &mut Watches, slot: Slot, place: usize, k: usize)
     requires slot { IsSlot watches.old.clauses slot }
-    requires later { 1 ≤ k }
+    requires first_two { place ≤ 1 }
+    requires later { (k ≡ place) ⊎ (2 ≤ k) }
     requires within { (id : ℕ) → slot_at watches.old.clauses id ≡ Some slot → k < length (lits_at watches.old.clauses id) }
     requires sound { IsWatched watches.old }
-    ensures second { (id : ℕ) → slot_at watches.old.clauses id ≡ Some slot → IsSecond id slot k watches.old watches.new }
+    ensures brought { (id : ℕ) → slot_at watches.old.clauses id ≡ Some slot → IsBrought id place k watches.old watches.new }
     ensures sound { IsWatched watches.new }
 {
-    if k == 1 {
+    if k == place {
         return;
     }
-    watches.move_second(slot, k);
+    watches.exchange(slot, place, k);
 }
 
-/// Brings the literal at a place to the first place.
-fn put_first(watches: &mut Watches, slot: Slot, k: usize)
-    requires slot { IsSlot watches.old.clauses slot }
-    requires two { (id : ℕ) → slot_at watches.old.clauses id ≡ Some slot → 2 ≤ length (lits_at watches.old.clauses id) }
-    requires within { (id : ℕ) → slot_at watches.old.clauses id ≡ Some slot → k < length (lits_at watches.old.clauses id) }
-    requires sound { IsWatched watches.old }
-    ensures first { (id : ℕ) → slot_at watches.old.clauses id ≡ Some slot → IsFirst id slot k watches.old watches.new }
-    ensures sound { IsWatched watches.new }
-{
-    if k == 0 {
-        return;
-    }
-    put_second(watches, slot, k);
-    watches.turn(slot);
-}
-
-/// Brings the literals at two places to the first two.
+/// Brings the literals at two places to the first two, in one order or the other.
 fn put_both(watches: &mut Watches, slot: Slot, i: usize, j: usize)
     requires slot { IsSlot watches.old.clauses slot }
     requires order { i < j }
     requires within { (id : ℕ) → slot_at watches.old.clauses id ≡ Some slot → j < length (lits_at watches.old.clauses id) }
     requires sound { IsWatched watches.old }
-    ensures pair { (id : ℕ) → slot_at watches.old.clauses id ≡ Some slot → IsPair id slot i j watches.old watches.new }
+    ensures pair { (id : ℕ) → slot_at watches.old.clauses id ≡ Some slot → IsPair id i j watches.old watches.new }
     ensures sound { IsWatched watches.new }
 {
-    put_first(watches, slot, i);
-    put_second(watches, slot, j);
+    if i == 1 {
+        bring(watches, slot, 0, j);
+        return;
+    }
+    bring(watches, slot, 0, i);
+    bring(watches, slot, 1, j);
 }
 
 /// Looks at a clause: brings two literals that aren't false to its first two places, where it has them and the first isn't true.
 /// Quiet says that it has a true literal, or that the first two aren't false.
 fn settle(watches: &mut Watches, trail: &Assignment, slot: Slot) -> Pending
     requires slot { IsSlot watches.old.clauses slot }
+    requires engine { IsEngine (engine_of watches.old.clauses trail.now.steps trail.now.vars) }
     ensures moved { IsMoved (literals trail.now.steps) watches.old.clauses watches.new.clauses }
-    ensures wide { length watches.new.chains ≡ length watches.old.chains }
-    ensures chains { (w : ℕ) → IsTrue (has (literals trail.now.steps) (neg w)) → IsLeftOut slot (chain_at watches.old.chains w) (chain_at watches.new.chains w) }
+    ensures wide { length watches.new.lists ≡ length watches.old.lists }
     ensures found { IsSettled (literals trail.now.steps) watches.old watches.new slot result }
     ensures sound { IsWatched watches.new }
 {
@@ -104,7 +94,6 @@ fn visit(watches: &mut Watches, trail: &mut Assignment, slot: Slot) -> bool
     requires slot { IsSlot watches.old.clauses slot }
     requires engine { IsEngine (engine_of watches.old.clauses trail.old.steps trail.old.vars) }
     ensures steps { Advances watches.old watches.new trail.old trail.new }
-    ensures chains { (w : ℕ) → IsTrue (has (literals trail.old.steps) (neg w)) → IsLeftOut slot (chain_at watches.old.chains w) (chain_at watches.new.chains w) }
     ensures yes { IsTrue result → IsFalseAt (engine_of watches.new.clauses trail.new.steps trail.new.vars) slot }
     ensures no { result ≡ false → (id : ℕ) → slot_at watches.new.clauses id ≡ Some slot → IsDone (literals trail.old.steps) (literals trail.new.steps) (lits_at watches.new.clauses id) }
     ensures sound { IsWatched watches.new }
@@ -119,61 +108,81 @@ fn visit(watches: &mut Watches, trail: &mut Assignment, slot: Slot) -> bool
     }
 }
 
-/// Which of the first two places the other literal stands at that a clause watches.
-fn place_of(lits: &[Lit], w: Lit, other: Lit) -> usize
-    requires { AreWatches lits.now w other }
-    ensures within { result ≤ 1 }
-    ensures is { slice_index lits.now result ≡ other }
+/// The last entry of a list before this place whose blocker isn't true.
+#[inline(always)]
+fn last_open(trail: &Assignment, list: &[Watch], end: usize) -> Option<usize>
+    requires within { end ≤ length list.now }
+    requires reserved { (i : ℕ) → i < length list.now → var (entry_at list.now i).blocker ≤ trail.now.vars }
+    ensures { IsLastOpen (literals trail.now.steps) list.now end result }
 {
-    if lits[0] == other { 0 } else { 1 }
+    let mut i = end;
+    while i > 0 {
+        i -= 1;
+        if !trail.is_true(list[i].blocker()) {
+            return Some(i);
+        }
+    }
+    None
 }
 
-/// Looks beyond the first two literals of a clause for one that isn't false, and watches it in place of the false one of
-/// the two; the other isn't false. Whether there is one.
-fn watch_another(watches: &mut Watches, trail: &Assignment, slot: Slot, w: Lit, other: Lit) -> bool
-    requires watched { (id : ℕ) → slot_at watches.old.clauses id ≡ Some slot → AreWatches (lits_at watches.old.clauses id) w other }
-    requires slot { IsSlot watches.old.clauses slot }
-    requires falsified { IsTrue (has (literals trail.now.steps) (neg w)) }
-    requires free { has (literals trail.now.steps) (neg other) ≡ false }
+/// Where a literal beyond the first two of a clause's list isn't false, an entry for a false one needs no further look: a true
+/// one becomes the blocker, and another is watched in place of the false one.
+#[inline(always)]
+fn watch_later(watches: &mut Watches, trail: &Assignment, w: Lit, i: usize, k: usize)
+    requires within { i < length (list_at watches.old.lists w) }
+    requires sound { IsWatched watches.old }
+    requires engine { IsEngine (engine_of watches.old.clauses trail.now.steps trail.now.vars) }
+    requires later { 2 ≤ k }
+    requires in_bounds { (id : ℕ) → slot_at watches.old.clauses id ≡ Some (watch_at watches.old w i).slot → k < length (lits_at watches.old.clauses id) }
+    requires falsified { has (literals trail.now.steps) (neg w) ≡ true }
+    requires free { (id : ℕ) → slot_at watches.old.clauses id ≡ Some (watch_at watches.old w i).slot → has (literals trail.now.steps) (neg (slice_index (lits_at watches.old.clauses id) k)) ≡ false }
     ensures moved { IsMoved (literals trail.now.steps) watches.old.clauses watches.new.clauses }
-    ensures wide { length watches.new.chains ≡ length watches.old.chains }
-    ensures chains { (w : ℕ) → IsTrue (has (literals trail.now.steps) (neg w)) → IsLeftOut slot (chain_at watches.old.chains w) (chain_at watches.new.chains w) }
-    ensures yes { IsTrue result → (id : ℕ) → slot_at watches.new.clauses id ≡ Some slot → HasTwo (literals trail.now.steps) (lits_at watches.new.clauses id) }
-    ensures no { result ≡ false → IsReason (clauses_of watches.old.clauses) (literals trail.now.steps) other slot }
+    ensures wide { length watches.new.lists ≡ length watches.old.lists }
+    ensures front { take i (list_at watches.new.lists w) ≡ take i (list_at watches.old.lists w) }
+    ensures passed { (id : ℕ) → slot_at watches.old.clauses id ≡ Some (watch_at watches.old w i).slot
+        → IsPassed (literals trail.now.steps) (literals trail.now.steps) (lits_at watches.old.clauses id) (lits_at watches.new.clauses id) (watch_at watches.old w i).place }
     ensures sound { IsWatched watches.new }
 {
-    let lits = watches.lits(slot);
-    let Some(k) = next_not_false(trail, lits, 2) else {
-        return false;
-    };
-    let i = place_of(lits, w, other);
-    put_both(watches, slot, i, k);
-    true
+    let slot = watches.list(w)[i].slot();
+    let l = watches.lits(slot)[k];
+    if trail.is_true(l) {
+        watches.block(w, i, l);
+    } else {
+        watches.move_watch(w, i, k);
+    }
 }
 
-/// Visits a clause that is in a false literal's chain, unless the other literal that it watches is true. Whether the clause
-/// is false.
-fn visit_watching(watches: &mut Watches, trail: &mut Assignment, slot: Slot, w: Lit) -> bool
-    requires watched { IsTrue (has (chain_at watches.old.chains w) slot) }
-    requires falsified { IsTrue (has (literals trail.old.steps) (neg w)) }
+/// Visits the clause of an entry in a false literal's list. Some is its slot where it is false.
+#[inline(always)]
+fn visit_entry(watches: &mut Watches, trail: &mut Assignment, w: Lit, i: usize) -> Option<Slot>
+    requires within { i < length (list_at watches.old.lists w) }
+    requires sound { IsWatched watches.old }
+    requires falsified { has (literals trail.old.steps) (neg w) ≡ true }
     requires engine { IsEngine (engine_of watches.old.clauses trail.old.steps trail.old.vars) }
     ensures steps { Advances watches.old watches.new trail.old trail.new }
-    ensures chains { (w : ℕ) → IsTrue (has (literals trail.old.steps) (neg w)) → IsLeftOut slot (chain_at watches.old.chains w) (chain_at watches.new.chains w) }
-    ensures yes { IsTrue result → IsFalseAt (engine_of watches.new.clauses trail.new.steps trail.new.vars) slot }
-    ensures no { result ≡ false → (id : ℕ) → slot_at watches.new.clauses id ≡ Some slot → IsDone (literals trail.old.steps) (literals trail.new.steps) (lits_at watches.new.clauses id) }
+    ensures front { take i (list_at watches.new.lists w) ≡ take i (list_at watches.old.lists w) }
+    ensures found { IfSome result (λ s. IsFalseAt (engine_of watches.new.clauses trail.new.steps trail.new.vars) s) }
+    ensures passed { IfNone result ((id : ℕ) → slot_at watches.old.clauses id ≡ Some (watch_at watches.old w i).slot
+        → IsPassed (literals trail.old.steps) (literals trail.new.steps) (lits_at watches.old.clauses id) (lits_at watches.new.clauses id) (watch_at watches.old w i).place) }
     ensures sound { IsWatched watches.new }
 {
-    let other = watches.other(slot, w);
+    let watch = watches.list(w)[i];
+    let slot = watch.slot();
+    let lits = watches.lits(slot);
+    let other = lits[1 - watch.place()];
     if trail.is_true(other) {
-        return false;
+        watches.block(w, i, other);
+        return None;
+    }
+    if let Some(k) = next_not_false(trail, lits, 2) {
+        watch_later(watches, trail, w, i, k);
+        return None;
     }
     if trail.is_false(other) {
-        return visit(watches, trail, slot);
+        return Some(slot);
     }
-    if !watch_another(watches, trail, slot, w, other) {
-        trail.put(other, Some(slot));
-    }
-    false
+    trail.put(other, Some(slot));
+    None
 }
 
 /// Looks at the clause of an id, if it is active. Some is its slot where it is false.
@@ -220,10 +229,11 @@ pub(crate) fn look_at(
     None
 }
 
-/// Visits the clauses that watch the negation of the true literal at this place. Some is the slot of one that is false.
+/// Visits the clauses that watch the negation of the true literal at this place, from the end of its list to the front, so that
+/// a clause that leaves the list changes nothing of what is still to come. Some is the slot of one that is false.
 fn walk(watches: &mut Watches, trail: &mut Assignment, head: usize) -> Option<Slot>
     requires head { head < length trail.old.steps }
-    requires wide { 2 * trail.old.vars ≤ length watches.old.chains }
+    requires wide { 2 * trail.old.vars ≤ length watches.old.lists }
     requires engine { IsEngine (engine_of watches.old.clauses trail.old.steps trail.old.vars) }
     requires ready { IsReady watches.old.clauses (literals trail.old.steps) head [] }
     ensures steps { Advances watches.old watches.new trail.old trail.new }
@@ -232,10 +242,10 @@ fn walk(watches: &mut Watches, trail: &mut Assignment, head: usize) -> Option<Sl
     ensures done { IfNone result (IsReady watches.new.clauses (literals trail.new.steps) (head + 1) []) }
 {
     let w = trail.lits()[head].neg();
-    let mut at = watches.first(w);
-    while let Some(slot) = at {
-        at = watches.behind(slot, w);
-        if visit_watching(watches, trail, slot, w) {
+    let mut end = watches.list(w).len();
+    while let Some(i) = last_open(trail, watches.list(w), end) {
+        end = i;
+        if let Some(slot) = visit_entry(watches, trail, w, i) {
             return Some(slot);
         }
     }
@@ -249,7 +259,7 @@ pub(crate) fn advance(
     head: &mut usize,
 ) -> Option<Slot>
     requires head { head.old ≤ length trail.old.steps }
-    requires wide { 2 * trail.old.vars ≤ length watches.old.chains }
+    requires wide { 2 * trail.old.vars ≤ length watches.old.lists }
     requires engine { IsEngine (engine_of watches.old.clauses trail.old.steps trail.old.vars) }
     requires ready { IsReady watches.old.clauses (literals trail.old.steps) head.old [] }
     ensures steps { Advances watches.old watches.new trail.old trail.new }
@@ -270,8 +280,9 @@ pub(crate) fn advance(
 /// Looks at a clause that has been added. Whether nothing follows of it and it has two literals or more.
 pub(crate) fn rests(watches: &mut Watches, trail: &Assignment, slot: Slot) -> bool
     requires slot { IsSlot watches.old.clauses slot }
+    requires engine { IsEngine (engine_of watches.old.clauses trail.now.steps trail.now.vars) }
     ensures moved { IsMoved (literals trail.now.steps) watches.old.clauses watches.new.clauses }
-    ensures wide { length watches.new.chains ≡ length watches.old.chains }
+    ensures wide { length watches.new.lists ≡ length watches.old.lists }
     ensures sound { IsWatched watches.new }
     ensures rests { IsTrue result → (id : ℕ) → slot_at watches.new.clauses id ≡ Some slot → Rests (literals trail.now.steps) (lits_at watches.new.clauses id) }
 {

@@ -1,9 +1,8 @@
 use Rattle.std.proofs.Common.{◌≡◌, ℕ, Option, length, refl, sym, ap, ◌∙◌}
-use Rattle.std.specs.FinMap.{len, insert}
+use Rattle.std.specs.FinMap.{len}
 use Rattle.lit_pool.specs.declared.Which.{Which}
 use Rattle.lit_pool.specs.declared.Which.TheVariants.{One, Two}
-use Rattle.lit_pool.specs.Entry.{Entry, Entries, entry_at, relinked}
-use Rattle.lit_pool.specs.Pieces.{ArePieces, live_pieces}
+use Rattle.lit_pool.specs.Entry.{Entry, entry_at, relinked}
 use Rattle.lit_pool.proofs.PiecesMap.{found, len_replaced}
 use Rattle.lit_pool.proofs.Pool.set_link.Goals as goal
 

@@ -1,4 +1,4 @@
-use Rattle.std.proofs.Common.{◌≡◌, ℕ, List, length, swap, sym, ap, ◌∙◌, arith}
+use Rattle.std.proofs.Common.{ℕ, swap, sym, ap, ◌∙◌, arith}
 use Rattle.std.proofs.lemmas.List.Edits.{length-swap}
 use Rattle.std.specs.FinMap.{len}
 use Rattle.lit_pool.specs.Entry.{Entry, entry_at}

@@ -1,9 +1,9 @@
-use Rattle.std.proofs.Common.{◌≡◌, ℕ, ◌+◌, ◌*◌, ◌-◌, ◌≤◌, List, [], ◌∷◌, ◌++◌, length, take, replicate, refl, sym, ap, ◌∙◌, arith}
+use Rattle.std.proofs.Common.{◌≡◌, ℕ, ◌+◌, ◌*◌, ◌-◌, ◌≤◌, List, ◌++◌, length, take, replicate, refl, ap, ◌∙◌, arith}
 use Rattle.std.proofs.Math.ListN.{set}
 use Rattle.std.proofs.lemmas.List.{take_all, length-append, length-replicate}
 use Rattle.lit_pool.specs.declared.kind.Kind.{Kind}
 use Rattle.lit_pool.specs.declared.kind.Kind.TheVariants.{Inside, Freed}
-use Rattle.lit_pool.specs.Pieces.{ArePieces, live_pieces, kind_at, room_in}
+use Rattle.lit_pool.specs.Pieces.{ArePieces, live_pieces}
 use Rattle.lit_pool.proofs.PiecesMap.{longer, appended, Appended}
 use Rattle.lit_pool.proofs.pieces.append.Goals as goal
 

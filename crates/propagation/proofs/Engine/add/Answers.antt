@@ -23,7 +23,11 @@ pub returns-in-Err-clause-memory : goal.returns-in-Err-clause-memory
 returns-in-Err-clause-memory c = let o = c.self.inside in λ h. c.in-Err.ensures.memory (sym (free_seen o.watches.clauses c.args.self.now o.trail.steps o.trail.vars c.args.id c.self.view_is) ∙ h)
 
 pub rests-requires : goal.rests-requires
-rests-requires c = record { slot = (c.args.id, slot_inserted c.self.inside.watches.clauses c.add_listed.new.watches.clauses c.args.id c.in-Ok.slot c.args.lits.now c.in-Ok.ensures.ok) }
+rests-requires c =
+    let o = c.self.inside in
+    let pushed = inside_pushed o.watches c.add_listed.new.watches o.trail o.head o.shorts.items o.short_head o.levels.items _ c.args.id c.in-Ok.slot c.args.lits.now c.self.invariant c.in-Ok.ensures.ok c.in-Ok.ensures.fresh c.in-Ok.ensures.free
+    (λ l m. subst (λ z. var l ≤ z) (sym (ap (λ z. z.vars) c.self.view_is)) (c.requires.reserved l m)) c.add_listed.ensures.wide in
+    record { slot = (c.args.id, slot_inserted o.watches.clauses c.add_listed.new.watches.clauses c.args.id c.in-Ok.slot c.args.lits.now c.in-Ok.ensures.ok); engine = pushed.sound }
 
 pub invariant_of-self-then-rests : goal.invariant_of-self-then-rests
 invariant_of-self-then-rests c =

@@ -11,26 +11,32 @@ returns-in-Err-clause-held c = let o = c.self.inside in λ h. c.in-Err.ensures.h
 pub returns-in-Err-clause-memory : goal.returns-in-Err-clause-memory
 returns-in-Err-clause-memory c = let o = c.self.inside in λ h. c.in-Err.ensures.memory (sym (weakened_seen o.watches.clauses c.args.self.now o.trail.steps o.trail.vars c.args.id c.self.view_is) ∙ h)
 
+pub rests_at-requires : goal.rests_at-requires
+rests_at-requires c =
+    let o = c.self.inside in
+    let inside = inside_restored o.watches c.restore.new.self o.trail o.head o.shorts.items o.short_head o.levels.items _ c.args.self.now c.args.id c.self.invariant c.self.view_is c.requires.level c.store.ensures.sound c.in_default.ensures.ok c.in_default.ensures.weakened c.restore.ensures.wide in
+    inside.sound
+
 pub invariant_of-self-then-not-rests_at : goal.invariant_of-self-then-not-rests_at
 invariant_of-self-then-not-rests_at c = let o = c.self.inside in
     inside_moved c.restore.new.self c.rests_at.new.watches o.trail 0 o.shorts.items 0 o.levels.items _
-    (inside_restored o.watches c.restore.new.self o.trail o.head o.shorts.items o.short_head o.levels.items _ c.args.self.now c.args.id c.self.invariant c.self.view_is c.requires.level c.store.ensures.sound c.in_default.ensures.ok c.in_default.ensures.weakened)
+    (inside_restored o.watches c.restore.new.self o.trail o.head o.shorts.items o.short_head o.levels.items _ c.args.self.now c.args.id c.self.invariant c.self.view_is c.requires.level c.store.ensures.sound c.in_default.ensures.ok c.in_default.ensures.weakened c.restore.ensures.wide)
     c.rests_at.ensures.moved c.rests_at.ensures.wide
 
 pub invariant_of-self-else-not-rests_at : goal.invariant_of-self-else-not-rests_at
 invariant_of-self-else-not-rests_at c = let o = c.self.inside in
-    inside_back_resting o.watches c.restore.new.self c.rests_at.new.watches o.trail o.head o.shorts.items o.short_head o.levels.items _ c.args.self.now c.args.id c.self.invariant c.self.view_is c.requires.level c.in_default.ensures.ok c.in_default.ensures.weakened
+    inside_back_resting o.watches c.restore.new.self c.rests_at.new.watches o.trail o.head o.shorts.items o.short_head o.levels.items _ c.args.self.now c.args.id c.self.invariant c.self.view_is c.requires.level c.in_default.ensures.ok c.in_default.ensures.weakened c.restore.ensures.wide
     c.rests_at.ensures.moved c.rests_at.ensures.wide c.rests_at.ensures.sound (c.rests_at.ensures.active c.if-not-rests_at.false) (c.rests_at.ensures.rests c.if-not-rests_at.false)
 
 pub returns-then-not-rests_at-clause-ok : goal.returns-then-not-rests_at-clause-ok
 returns-then-not-rests_at-clause-ok c = let o = c.self.inside in
     subst (λ z. IsRestored c.args.self.now c.args.id (record { clauses = z; trail = o.trail.steps; vars = o.trail.vars })) (sym c.rests_at.ensures.moved.seen)
-    (value_back o.watches.clauses c.restore.new.self.clauses c.args.self.now c.args.id o.trail.steps o.trail.vars c.self.view_is c.in_default.ensures.ok.clauses)
+    (value_back o.watches.clauses c.restore.new.self.clauses c.args.self.now c.args.id o.trail.steps o.trail.vars c.self.view_is c.in_default.ensures.ok)
 
 pub returns-else-not-rests_at-clause-ok : goal.returns-else-not-rests_at-clause-ok
 returns-else-not-rests_at-clause-ok c = let o = c.self.inside in
     subst (λ z. IsRestored c.args.self.now c.args.id (record { clauses = z; trail = o.trail.steps; vars = o.trail.vars })) (sym c.rests_at.ensures.moved.seen)
-    (value_back o.watches.clauses c.restore.new.self.clauses c.args.self.now c.args.id o.trail.steps o.trail.vars c.self.view_is c.in_default.ensures.ok.clauses)
+    (value_back o.watches.clauses c.restore.new.self.clauses c.args.self.now c.args.id o.trail.steps o.trail.vars c.self.view_is c.in_default.ensures.ok)
 
 pub returns-then-not-rests_at-clause-weakened : goal.returns-then-not-rests_at-clause-weakened
 returns-then-not-rests_at-clause-weakened c = let o = c.self.inside in weakened_seen o.watches.clauses c.args.self.now o.trail.steps o.trail.vars c.args.id c.self.view_is ∙ c.in_default.ensures.weakened

@@ -1,8 +1,0 @@
-use Rattle.std.proofs.Common.{◌≡◌, length}
-use Rattle.propagation.proofs.assignment.Assignment.clear.Given as goal
-
-abbrev pub invariant-loop-self : goal.invariant-loop-self
-invariant-loop-self l = l.self.vars ≡ l.fn.self.vars
-
-abbrev pub decreases-loop-self : goal.decreases-loop-self
-decreases-loop-self l = length l.self.steps

@@ -1,0 +1,6 @@
+use Rattle.std.proofs.Common.{take}
+use Rattle.watch_lists.specs.Lists.{AreLowered}
+use Rattle.watch_lists.proofs.lists.lower.Given as goal
+
+abbrev pub invariant-loop-l : goal.invariant-loop-l
+invariant-loop-l l = AreLowered (take l.l-index l.lits) l.fn.rows.items l.rows.items

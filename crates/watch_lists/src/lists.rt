@@ -1,0 +1,207 @@
+// The lists and the table of places together. A clause of two or more literals has an entry in the list of the literal in the
+// first place of its own list, and one for that in the second. The table says where both stand, so an entry is taken out of
+// the middle of a list without a search; the last one of the list comes to its place.
+
+ghost use Rattle.std.specs.Prelude.{◌≡◌, ℕ, ◌+◌, ◌<◌, ◌≤◌, ◌-◌, ◌++◌, ◌∷◌, [], length, take, replicate, nat_lt, nat_eq, slice_index, slice_set, OnOk, OnErr, Some, true};
+ghost use Rattle.std.specs.List.{list_all};
+ghost use Rattle.lits.specs.Clause.{has};
+ghost use Rattle.clause_store.specs.Clauses.{slot_at, with_swap, IsOnce, Store as Clauses};
+ghost use Rattle.watch_lists.specs.Watch.{node_at, node_of};
+ghost use Rattle.watch_lists.specs.Watched.{entry_at};
+ghost use Rattle.watch_lists.specs.Lists.{no_row, row_at, watches_at, count_at, with_watches, IsCut, IsRowChanged, put_places, cut_places, lits_of, id_at, nobody, AreKept, AreRaised, AreLowered, sides_in, CanPart, CanMove};
+
+use crate::row::Row;
+use crate::watch::Watch;
+use clause_store::{Slot, Store};
+use lits::Lit;
+use std::alloc::AllocError;
+
+/// The literals that a clause watches, and where its entries stand in their lists.
+#[derive(Clone, Copy)]
+pub(crate) struct Sides {
+    one: Lit,
+    one_at: u32,
+    two: Lit,
+    two_at: u32,
+}
+
+/// Whether the codes of all these literals are below an end.
+pub(crate) fn are_below(lits: &[Lit], end: usize) -> bool
+    ensures { result ≡ list_all (λ l. nat_lt l end) lits.now }
+{
+    lits.iter().all(|l| (l.code() as usize) < end)
+}
+
+/// Makes so many rows, where there are fewer, with empty lists. After an error they are as they were.
+pub(crate) fn widen(rows: &mut Vec<Row>, end: usize) -> Result<(), AllocError>
+    ensures ok { OnOk result (rows.new.items ≡ rows.old.items ++ replicate (end - length rows.old.items) no_row) }
+    ensures err { OnErr result (rows.new.items ≡ rows.old.items) }
+{
+    let alloc = *rows.allocator();
+    let more = end.saturating_sub(rows.len());
+    rows.reserve(more)?;
+    for _ in 0..more {
+        let _ = rows.push(Row::new(alloc));
+    }
+    Ok(())
+}
+
+/// Makes the table so long, where it is shorter. After an error its numbers are as they were.
+fn lengthen(places: &mut Vec<u32>, end: usize) -> Result<(), AllocError>
+    ensures ok { OnOk result (end ≤ length places.new.items) }
+    ensures longer { length places.old.items ≤ length places.new.items }
+    ensures same { (n : ℕ) → n < length places.old.items → slice_index places.new.items n ≡ slice_index places.old.items n }
+{
+    if places.len() < end {
+        places.resize(end, 0)?;
+    }
+    Ok(())
+}
+
+/// Makes room in the rows for one clause more of each of these literals. After an error some have it all the same.
+fn raise(rows: &mut Vec<Row>, lits: &[Lit]) -> Result<(), AllocError>
+    requires { (l : ℕ) → has lits.now l ≡ true → l < length rows.old.items }
+    ensures raised { AreRaised [] rows.old.items rows.new.items }
+    ensures ok { OnOk result (AreRaised lits.now rows.old.items rows.new.items) }
+{
+    for l in lits {
+        rows[l.code() as usize].raise()?;
+    }
+    Ok(())
+}
+
+/// Gives up the room in the rows for one clause of each of these literals, which are different.
+pub(crate) fn lower(rows: &mut Vec<Row>, lits: &[Lit])
+    requires reserved { (l : ℕ) → has lits.now l ≡ true → l < length rows.old.items }
+    requires once { IsOnce lits.now }
+    ensures { AreLowered lits.now rows.old.items rows.new.items }
+{
+    for l in lits {
+        rows[l.code() as usize].lower();
+    }
+}
+
+/// Puts an entry at the end of a literal's list, which has room for it.
+#[inline(always)]
+fn put(rows: &mut Vec<Row>, places: &mut Vec<u32>, l: Lit, watch: Watch)
+    requires reserved { l < length rows.old.items }
+    requires room { length (watches_at rows.old.items l) < count_at rows.old.items l }
+    requires place { node_of watch < length places.old.items }
+    ensures rows { rows.new.items ≡ slice_set rows.old.items l (with_watches (row_at rows.old.items l) (watches_at rows.old.items l ++ watch ∷ [])) }
+    ensures places { places.new.items ≡ put_places places.old.items (watches_at rows.old.items l) watch }
+{
+    let row = &mut rows[l.code() as usize];
+    places[watch.node()] = row.list().len() as u32;
+    row.push(watch);
+}
+
+/// Takes out the entry at a place of a literal's list, to which the last one comes.
+#[inline(always)]
+fn cut(rows: &mut Vec<Row>, places: &mut Vec<u32>, l: Lit, i: usize)
+    requires within { i < length (watches_at rows.old.items l) }
+    requires reserved { l < length rows.old.items }
+    requires few { length (watches_at rows.old.items l) ≤ count_at rows.old.items l }
+    requires places { (k : ℕ) → k < length (watches_at rows.old.items l) → node_of (entry_at (watches_at rows.old.items l) k) < length places.old.items }
+    ensures list { IsCut (watches_at rows.old.items l) (watches_at rows.new.items l) i }
+    ensures rows { IsRowChanged l rows.old.items rows.new.items }
+    ensures places { places.new.items ≡ cut_places places.old.items (watches_at rows.old.items l) i }
+{
+    let row = &mut rows[l.code() as usize];
+    row.cut(i);
+    let list = row.list();
+    if i < list.len() {
+        places[list[i].node()] = i as u32;
+    }
+}
+
+/// Makes room for the entries of the clause at a slot. After an error some of its literals have room all the same.
+pub(crate) fn make_room(
+    store: &Store,
+    rows: &mut Vec<Row>,
+    places: &mut Vec<u32>,
+    s: Slot,
+) -> Result<(), AllocError>
+    requires slot { slot_at store.now (id_at store.now s) ≡ Some s }
+    requires reserved { (l : ℕ) → has (lits_of store.now s) l ≡ true → l < length rows.old.items }
+    ensures raised { AreRaised [] rows.old.items rows.new.items }
+    ensures longer { length places.old.items ≤ length places.new.items }
+    ensures same { (n : ℕ) → n < length places.old.items → slice_index places.new.items n ≡ slice_index places.old.items n }
+    ensures room { OnOk result (AreRaised (lits_of store.now s) rows.old.items rows.new.items) }
+    ensures fits { OnOk result (node_at s 1 < length places.new.items) }
+{
+    lengthen(places, 2 * s.number() as usize + 2)?;
+    raise(rows, store.lits(s))
+}
+
+/// Puts both entries of a clause into their lists, if it has two literals or more.
+pub(crate) fn enter(store: &Store, rows: &mut Vec<Row>, places: &mut Vec<u32>, s: Slot)
+    requires kept { AreKept (nat_eq s) store.now rows.old.items places.old.items }
+    requires slot { slot_at store.now (id_at store.now s) ≡ Some s }
+    ensures kept { AreKept nobody store.now rows.new.items places.new.items }
+    ensures long { length rows.new.items ≡ length rows.old.items }
+{
+    if store.lits(s).len() < 2 {
+        return;
+    }
+    let (one, two) = store.pair(s);
+    put(rows, places, one, Watch::new(s, 0, two));
+    put(rows, places, two, Watch::new(s, 1, one));
+}
+
+/// Where the entries of a clause stand; None where its list has fewer than two literals.
+pub(crate) fn sides_of(store: &Store, places: &Vec<u32>, s: Slot) -> Option<Sides>
+    requires slot { slot_at store.now (id_at store.now s) ≡ Some s }
+    requires room { node_at s 1 < length places.now.items }
+    ensures { result ≡ sides_in store.now places.now.items s }
+{
+    if store.lits(s).len() < 2 {
+        return None;
+    }
+    let (one, two) = store.pair(s);
+    let node = 2 * s.number() as usize;
+    Some(Sides {
+        one,
+        one_at: places[node],
+        two,
+        two_at: places[node + 1],
+    })
+}
+
+/// Takes both entries of a clause out of their lists, which may have left the store since.
+pub(crate) fn part(rows: &mut Vec<Row>, places: &mut Vec<u32>, sides: Option<Sides>)
+    requires { (m : Clauses) × (s : ℕ) × CanPart m rows.old.items places.old.items s sides }
+    ensures kept { (m : Clauses) (s : ℕ) → CanPart m rows.old.items places.old.items s sides → AreKept (nat_eq s) m rows.new.items places.new.items }
+    ensures long { length rows.new.items ≡ length rows.old.items }
+{
+    if let Some(sides) = sides {
+        cut(rows, places, sides.one, sides.one_at as usize);
+        cut(rows, places, sides.two, sides.two_at as usize);
+    }
+}
+
+/// Exchanges the literal of an entry for a later one of its clause's list, and moves the entry from the list of the one to the
+/// end of that of the other. The other watch becomes its blocker.
+#[inline(always)]
+pub(crate) fn move_watch(
+    store: &mut Store,
+    rows: &mut Vec<Row>,
+    places: &mut Vec<u32>,
+    l: Lit,
+    i: usize,
+    k: usize,
+)
+    requires { CanMove store.old rows.old.items places.old.items l i k }
+    ensures exchanged { let e = entry_at (watches_at rows.old.items l) i in store.new ≡ with_swap store.old (id_at store.old e.slot) e.place k }
+    ensures kept { AreKept nobody store.new rows.new.items places.new.items }
+    ensures long { length rows.new.items ≡ length rows.old.items }
+    ensures front { take i (watches_at rows.new.items l) ≡ take i (watches_at rows.old.items l) }
+{
+    let watch = rows[l.code() as usize].list()[i];
+    let slot = watch.slot();
+    let place = watch.place();
+    let joined = store.at(slot, k);
+    let other = store.at(slot, 1 - place);
+    cut(rows, places, l, i);
+    store.swap(slot, place, k);
+    put(rows, places, joined, Watch::new(slot, place, other));
+}

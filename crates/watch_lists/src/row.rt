@@ -1,0 +1,103 @@
+//! The row of a literal: the list of the clauses that watch it, and a number of clauses for which the list has room. The rows
+//! of a clause's literals make room when the clause is added, so an entry that moves to another literal of its clause takes
+//! no memory.
+ghost use Rattle.std.specs.Prelude.{◌≡◌, ◌+◌, ◌-◌, ◌^◌, ◌<◌, ◌++◌, ◌∷◌, [], length, slice_set, OnOk, OnErr};
+ghost use Rattle.watch_lists.specs.Lists.{no_row, with_watches, with_count, IsCut};
+
+use crate::watch::Watch;
+use std::alloc::{AllocError, Global};
+use std::marker::Model;
+
+/// A list and its room. Contracts see the list and the number of clauses for which it has room.
+#[derive(Drop)]
+pub(crate) struct Row {
+    watches: Vec<Watch>,
+    count: u32,
+}
+
+impl Model for Row {
+    ghost use Rattle.watch_lists.specs.Lists.{RowView, row_code};
+
+    ghost Value = { RowView };
+
+    ghost coded = { row_code };
+
+    ghost use Rattle.std.specs.Prelude.{◌≤◌};
+    ghost use Rattle.std.specs.Vec.{vec_capacity};
+
+    ghost view = { λ r. record { watches = r.watches.items; count = r.count } };
+
+    ghost invariant = { λ r. r.count ≤ vec_capacity r.watches };
+}
+
+impl Row {
+    /// An empty list with room for nothing.
+    pub(crate) fn new(alloc: Global) -> Row
+        ensures { result ≡ no_row }
+    {
+        Row {
+            watches: Vec::new(alloc),
+            count: 0,
+        }
+    }
+
+    /// The list.
+    #[inline(always)]
+    pub(crate) fn list(&self) -> &[Watch]
+        ensures list { result.now ≡ self.now.watches }
+        ensures small { self.now.count < 2 ^ 32 }
+    {
+        // that the count is below 2^32 is known where it is read
+        let _count = self.count;
+        &self.watches
+    }
+
+    /// Makes room for one clause more. Where memory is wanting all stays.
+    pub(crate) fn raise(&mut self) -> Result<(), AllocError>
+        ensures ok { OnOk result (self.new ≡ with_count self.old (self.old.count + 1)) }
+        ensures err { OnErr result (self.new ≡ self.old) }
+    {
+        if self.count == u32::MAX {
+            return Err(AllocError);
+        }
+        let more = (self.count as usize + 1).saturating_sub(self.watches.len());
+        self.watches.reserve(more)?;
+        self.count += 1;
+        Ok(())
+    }
+
+    /// Gives up the room for one clause.
+    pub(crate) fn lower(&mut self)
+        ensures { self.new ≡ with_count self.old (self.old.count - 1) }
+    {
+        self.count = self.count.saturating_sub(1);
+    }
+
+    /// Puts an entry at the end of a list that has room for it.
+    #[inline(always)]
+    pub(crate) fn push(&mut self, watch: Watch)
+        requires { length self.old.watches < self.old.count }
+        ensures { self.new ≡ with_watches self.old (self.old.watches ++ watch ∷ []) }
+    {
+        let _ = self.watches.push(watch);
+    }
+
+    /// Takes out the entry at a place, to which the last one comes.
+    #[inline(always)]
+    pub(crate) fn cut(&mut self, i: usize)
+        requires { i < length self.old.watches }
+        ensures list { IsCut self.old.watches self.new.watches i }
+        ensures count { self.new.count ≡ self.old.count }
+    {
+        let _ = self.watches.swap_remove(i);
+    }
+
+    /// Puts another entry at a place.
+    #[inline(always)]
+    pub(crate) fn set(&mut self, i: usize, watch: Watch)
+        requires { i < length self.old.watches }
+        ensures { self.new ≡ with_watches self.old (slice_set self.old.watches i watch) }
+    {
+        self.watches[i] = watch;
+    }
+}
