@@ -17,6 +17,7 @@ use Rattle.propagation.specs.declared.assignment.Value.TheVariants as value
 use Rattle.propagation.specs.Engine.{literals, level_after, value_in, is_assumed, IsFree, up_to_level}
 use Rattle.propagation.specs.Assigned.{IsAt, AreNew, AreValues, AreMarks, IsAssigned, AreFreed, entry_without, lowered, value_of}
 use Rattle.propagation.proofs.Trail.{AreNew-prefix}
+use Rattle.propagation.proofs.Advancing.{literals-append}
 use Rattle.propagation.proofs.Levels.{up_to_level-all}
 use Rattle.propagation.proofs.Assigning.{level_after-push, lowered-raised, level-kept, value-free, value-free_neg, two_writes, reserved-true}
 
@@ -90,10 +91,6 @@ pub freed-all : (lits : List ℕ) (old new : List Value) (n i : ℕ) → length 
 freed-all lits old new n i past k = subst (λ z. AreFreed old z new) (take_all i (take (length lits - n) (drop n lits)) past ∙ behind lits n) k
 
 -- ---- What stays of a trail
-
-literals-append : (xs ys : List Step) → literals (xs ++ ys) ≡ literals xs ++ literals ys
-literals-append [] ys = refl
-literals-append (x ∷ xs) ys = ap (λ z. x.lit ∷ z) (literals-append xs ys)
 
 literals-take : (n : ℕ) (ss : List Step) → take n (literals ss) ≡ literals (take n ss)
 literals-take zero ss = refl

@@ -8,6 +8,9 @@ use crate::watch::Watch;
 use std::alloc::{AllocError, Global};
 use std::marker::Model;
 
+// A list keeps so many places, whatever it has room for.
+const SPARE: usize = 16;
+
 /// A list and its room. Contracts see the list and the number of clauses for which it has room.
 #[derive(Drop)]
 pub(crate) struct Row {
@@ -52,7 +55,7 @@ impl Row {
         &self.watches
     }
 
-    /// Makes room for one clause more. Where memory is wanting all stays.
+    /// Makes room for one clause more, and for some to come. Where memory is wanting all stays.
     pub(crate) fn raise(&mut self) -> Result<(), AllocError>
         ensures ok { OnOk result (self.new ≡ with_count self.old (self.old.count + 1)) }
         ensures err { OnErr result (self.new ≡ self.old) }
@@ -60,17 +63,24 @@ impl Row {
         if self.count == u32::MAX {
             return Err(AllocError);
         }
-        let more = (self.count as usize + 1).saturating_sub(self.watches.len());
-        self.watches.reserve(more)?;
+        let want = self.count as usize + 1;
+        if self.watches.capacity() < want {
+            let more = (want + want / 4).saturating_sub(self.watches.len());
+            self.watches.reserve_exact(more)?;
+        }
         self.count += 1;
         Ok(())
     }
 
-    /// Gives up the room for one clause.
+    /// Gives up the room for one clause. Where most of the memory isn't needed any more, it is given back.
     pub(crate) fn lower(&mut self)
         ensures { self.new ≡ with_count self.old (self.old.count - 1) }
     {
         self.count = self.count.saturating_sub(1);
+        let count = self.count as usize;
+        if self.watches.capacity() > 2 * count + SPARE {
+            self.watches.shrink_to(count + count / 4);
+        }
     }
 
     /// Puts an entry at the end of a list that has room for it.
