@@ -65,7 +65,7 @@ impl Row {
         }
         let want = self.count as usize + 1;
         if self.watches.capacity() < want {
-            let more = (want + want / 4).saturating_sub(self.watches.len());
+            let more = (want + want / 2 + 2).saturating_sub(self.watches.len());
             self.watches.reserve_exact(more)?;
         }
         self.count += 1;
@@ -79,7 +79,7 @@ impl Row {
         self.count = self.count.saturating_sub(1);
         let count = self.count as usize;
         if self.watches.capacity() > 2 * count + SPARE {
-            self.watches.shrink_to(count + count / 4);
+            self.watches.shrink_to(count + count / 2);
         }
     }
 
