@@ -136,8 +136,8 @@ impl Assignment {
         self.values[l.code() as usize] = Value::True;
         self.values[l.neg().code() as usize] = Value::False;
         self.marks[(l.var() - 1) as usize] = mark;
-        let _ = self.steps.push(step);
-        let _ = self.lits.push(l);
+        self.steps.push_reserved(step);
+        self.lits.push_reserved(l);
         self.level = level;
     }
 

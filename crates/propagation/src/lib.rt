@@ -375,7 +375,7 @@ impl Engine {
         requires free { IsFree (literals self.old.trail) l }
         ensures { self.new ≡ with_step self.old l None }
     {
-        let _ = self.levels.push(Heads {
+        self.levels.push_reserved(Heads {
             trail: self.head,
             shorts: self.short_head,
         });

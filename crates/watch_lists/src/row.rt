@@ -89,7 +89,7 @@ impl Row {
         requires { length self.old.watches < self.old.count }
         ensures { self.new ≡ with_watches self.old (self.old.watches ++ watch ∷ []) }
     {
-        let _ = self.watches.push(watch);
+        self.watches.push_reserved(watch);
     }
 
     /// Takes out the entry at a place, to which the last one comes.
