@@ -7,6 +7,7 @@ use Rattle.std.proofs.lemmas.List.Folds.{find-append}
 use Rattle.lits.specs.Clause.{has}
 use Rattle.session_rules.specs.declared.LineFault.{LineFault}
 use Rattle.session_rules.specs.declared.Rule.TheVariants as rules
+use Rattle.session_rules.specs.History.{first_missing}
 use Rattle.session_rules.specs.Reading.{literal_list, whole}
 use Rattle.slice_tokens.specs.Place.{Place, WhereTold, ahead}
 use Rattle.line_reading.specs.Parts.{ReadsPart, EndsLine, Stays, word_part}
@@ -107,3 +108,28 @@ module _ (c qs : List ℕ) (t0 t1 t2 : List Mark) (none : IsBlank t0) (held : Ch
     claim = h.claim ∙ ap (λ p. find p h.literals) (fun_ext (λ l. ap (λ m. not m.assumed) (marked l)));
     told = h.told;
   }
+
+-- ---- The same literals
+
+find_none : (ls : List ℕ) → find (λ l. false) ls ≡ None
+find_none [] = refl
+find_none (x ∷ xs) = find_none xs
+
+none_missing : (ls : List ℕ) → first_missing ls ls ≡ None
+none_missing ls = find_members (λ l. not (has ls l)) (λ l. false) ls ls (λ l is. ap not is) (λ l is. is) ∙ find_none ls
+
+module _ (held : List ℕ) (o q s : Place) (a d e : Option (List ℕ)) (read : WhereTold (ahead o a) (ahead q d) (λ t u. ReadsPart literal_list (Ok held) o t q u)) where
+  -- the line has an event's literals in the same order
+  pub same_met : (y : Unit) (claim : Option ℕ) → claim ≡ first_missing held [] → WhereTold (ahead q d) (ahead s e) (λ u v. EndsLine (Ok y) q u s v)
+      → LiteralsMet held [] (record { stranger = None; unmet = None; claim = claim }) o a s e
+  same_met y claim is end = record {
+    literals = held;
+    stranger = sym (none_missing held);
+    unmet = sym (none_missing held);
+    claim = is;
+    told = told_then _ _ _ _ _ _ read end (λ t u v h w. rest_then literal_list (λ ls ws. whole ls ws) held (Ok held) o q s t u v h (end_then held y q s u v w));
+  }
+
+  pub same_fails : (fault : LineFault) → WhereTold (ahead q d) (ahead s e) (λ u v. EndsLine (Err fault) q u s v)
+      → WhereTold (ahead o a) (ahead s e) (λ t u. ReadsRest literals_rest (Err fault) o t s u)
+  same_fails fault end = told_then _ _ _ _ _ _ read end (λ t u v h w. rest_then literal_list (λ ls ws. whole ls ws) held (Err fault) o q s t u v h (end_fails held fault q s u v w))

@@ -1,15 +1,19 @@
 // How the literals of a line are held against those of an event as they come, by marks in a table.
 
-ghost use Rattle.std.specs.Prelude.{◌≡◌, ◌≤◌, length, if◌then◌else◌, All, IsErrOf};
+ghost use Rattle.std.specs.Prelude.{◌≡◌, ◌≤◌, ℕ, List, [], length, if◌then◌else◌, All, IsErrOf, Option, Ok, false};
+ghost use Rattle.std.specs.Bool.{OnTrue};
 ghost use Rattle.std.specs.Option.{option_or};
 ghost use Rattle.outside.specs.Faults.{Rose};
 ghost use Rattle.session_rules.specs.declared.LineFault.{LineFault};
-ghost use Rattle.line_reading.specs.Parts.{Stays};
+ghost use Rattle.session_rules.specs.History.{first_missing};
+ghost use Rattle.session_rules.specs.Reading.{literal_list};
+ghost use Rattle.slice_tokens.specs.Place.{Place, ahead, WhereTold};
+ghost use Rattle.line_reading.specs.Parts.{ReadsPart, Stays};
 ghost use Rattle.icnf_lines.specs.Marks.{HasPlace, IsBlank};
 ghost use Rattle.icnf_lines.specs.Partners as partners;
 
 use crate::marks::{Mark, clear, first_unmet, mark_assumed, mark_held, mark_met, mark_of};
-use line_reading::{LiteralWords, end_line, next_word};
+use line_reading::{LiteralWords, end_line, next_word, pass_literals};
 use lits::Lit;
 use outside::Source;
 use session_rules::LineFault;
@@ -24,8 +28,51 @@ pub(crate) struct Met {
     pub(crate) claim: Option<Lit>,
 }
 
+/// The first of some literals.
+fn first_literal(lits: &[Lit]) -> Option<Lit>
+    ensures { result ≡ first_missing lits.now [] }
+{
+    if lits.is_empty() { None } else { Some(lits[0]) }
+}
+
+/// Reads literals and a 0 where they are an event's in the same order and nothing is assumed, as a look tells. Where it answers
+/// false nothing is read.
+fn pass_same(window: &mut Window, held: &[Lit], assumed: &[Lit]) -> bool
+    ensures stays { OnTrue result (Stays window.old window.new) }
+    ensures none { OnTrue result (assumed.now ≡ []) }
+    ensures yes { OnTrue result ((left : Option (List ℕ)) → WhereTold (ahead window.old left) (ahead window.new left)
+        (λ bytes rest. ReadsPart literal_list (Ok held.now) window.old bytes window.new rest)) }
+    ensures no { result ≡ false → window.new ≡ window.old }
+{
+    assumed.is_empty() && pass_literals(window, held)
+}
+
+/// Reads the end of a line whose literals are an event's, where nothing is assumed.
+fn meet_same<S: Source>(
+    window: &mut Window,
+    src: &mut S,
+    held: &[Lit],
+) -> Result<Met, LineFault>
+    ensures stays { Stays window.old window.new }
+    ensures told { (o : Place) (before : Option (List ℕ)) → WhereTold (ahead o before) (ahead window.old (S.left src.old)) (λ t u. ReadsPart literal_list (Ok held.now) o t window.old u)
+        → partners.MeetsLiterals held.now [] result o before window.new (S.left src.new) }
+    ensures count { S.faults src.old ≤ S.faults src.new }
+    ensures read { IsErrOf result LineFault.Read → Rose (S.faults src.old) (S.faults src.new) }
+    ensures memory { IsErrOf result LineFault.Memory → ⊥ }
+{
+    match end_line(window, src) {
+        Ok(()) => Ok(Met {
+            stranger: None,
+            unmet: None,
+            claim: first_literal(held),
+        }),
+        Err(fault) => Err(fault),
+    }
+}
+
 /// Holds the rest of a line, literals and a 0, against an event's literals and those that are assumed. The table has no mark
-/// then, also after an error.
+/// then, also after an error. Where nothing is assumed a look tells whether the line has the same literals in the same order,
+/// as nearly every line has, and nothing is marked.
 pub(crate) fn meet<S: Source>(
     window: &mut Window,
     src: &mut S,
@@ -43,6 +90,9 @@ pub(crate) fn meet<S: Source>(
     ensures read { IsErrOf result LineFault.Read → Rose (S.faults src.old) (S.faults src.new) }
     ensures memory { IsErrOf result LineFault.Memory → ⊥ }
 {
+    if pass_same(window, held, assumed) {
+        return meet_same(window, src, held);
+    }
     mark_held(table, held);
     mark_assumed(table, assumed);
     let found = find_literals(window, src, table);

@@ -7,3 +7,4 @@ pub mod ByLetter
 pub mod AtBounds
 pub mod EndDue
 pub mod Fronts
+pub mod Running

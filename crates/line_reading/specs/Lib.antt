@@ -2,3 +2,4 @@ pub mod Parts
 pub mod Kinds
 pub mod Whole
 pub mod Expected
+pub mod Runs

@@ -7,6 +7,7 @@ mod expecting;
 mod kinds;
 mod lists;
 mod rests;
+mod runs;
 mod words;
 
 pub use entering::enter_line;
@@ -16,6 +17,7 @@ pub use lists::{read_id, read_ids, read_literals, read_status};
 pub use rests::{
     id_literals_ids_rest, id_literals_rest, ids_rest, literals_ids_rest, literals_rest, status_rest,
 };
+pub use runs::pass_literals;
 pub use words::{WordKind, end_line, next_word};
 
 #[cfg(test)]

@@ -7,6 +7,7 @@ ghost use Rattle.slice_tokens.specs.Place.{ahead, WhereTold};
 ghost use Rattle.line_reading.specs.Parts.{ReadsPart, Stays};
 
 use crate::kinds::{IdWords, LiteralWords, OwnIdWords, StatusWords};
+use crate::runs::push_run;
 use crate::words::next_word;
 use lits::Lits;
 use outside::Source;
@@ -52,6 +53,14 @@ pub fn read_literals<S: Source>(
     ensures read { IsErrOf result LineFault.Read → Rose (S.faults src.old) (S.faults src.new) }
 {
     let mut lits = empty_literals(alloc);
+    match push_run(window.coming(), &mut lits) {
+        Ok((count, true)) => {
+            window.pass_over(count);
+            return Ok(lits);
+        }
+        Ok((count, false)) => window.pass_over(count),
+        Err(AllocError) => return Err(LineFault::Memory),
+    }
     'literals: loop {
         match next_word::<S, LiteralWords>(window, src) {
             Ok(Some(l)) => {

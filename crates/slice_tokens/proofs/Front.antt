@@ -1,12 +1,14 @@
 -- Taking a word that stands behind one space.
 use Rattle.std.proofs.Common.{◌≡◌, ℕ, ◌+◌, ◌<◌, ◌≤◌, Bool, true, false, not, ◌||◌, nat_eq, List, [], ◌∷◌, ◌++◌, length, take, drop, if◌then◌else◌, Option, Some, None, IfSome, refl, sym, ap, ◌∙◌, subst, arith, eqb-true}
-use Rattle.std.proofs.lemmas.List.{drop-drop}
+use Rattle.std.proofs.Common.{length-take}
+use Rattle.std.proofs.Math.Seq.{drop-nil}
+use Rattle.std.proofs.lemmas.List.{drop-drop, drop-take}
 use Rattle.std.proofs.lemmas.Bool.{and_parts}
 use Rattle.std.specs.List.{prefix_len}
 use Rattle.session_rules.specs.Lines.{Line, is_blank, is_line_feed, most_bytes}
 use Rattle.slice_tokens.specs.declared.window.Standing.{Standing}
 use Rattle.slice_tokens.specs.declared.window.Standing.TheVariants.{Start, Content, Comment}
-use Rattle.slice_tokens.specs.Place.{Place, WhereTold, ahead, present}
+use Rattle.slice_tokens.specs.Place.{Place, WhereTold, ahead, room, present}
 use Rattle.slice_tokens.specs.Due.{due, due_word, due_end}
 use Rattle.slice_tokens.specs.Calls.{without_first, stands_in_content}
 use Rattle.slice_tokens.specs.Held.{passed_over, is_word_byte, readable, blanks, word_len}
@@ -118,6 +120,51 @@ takes_told p n a bound h = found_told p (passed_over (n + 1) p) n (behind_space 
 pub first_told : (p : Place) (n : ℕ) (a : Option (List ℕ)) → p.passed ≤ most_bytes → IsWordFront (coming p) n
     → WhereTold (ahead p a) (ahead (passed_over n p) a) (λ t u. TakesWord (take n (coming p)) p t (passed_over n p) u)
 first_told p n a bound h = found_told p (passed_over n p) n (coming p) a bound (found_first p n h) (ap (passed_over n) (looked_none p (no_space p n h)))
+
+-- ---- Several words
+
+bytes_coming : (st : Standing) (r : List ℕ) (n : ℕ) → n ≤ length (if stands_in_content st then r else []) → n ≤ length r
+bytes_coming Start r n h = omega (arith, h)
+bytes_coming Content r n h = h
+bytes_coming Comment r n h = omega (arith, h)
+
+-- the bytes that come are held, and end before the bound
+pub coming_bounds : (p : Place) (n : ℕ) → p.passed ≤ most_bytes → n ≤ length (coming p) → (n ≤ length p.held) × (p.passed + n ≤ most_bytes)
+coming_bounds p n bound h =
+    let within = bytes_coming p.standing (readable p) n h in
+    let long = length-take (room p) p.held in
+    (omega (arith, within, long), omega (arith, within, long, bound))
+
+-- n bytes behind m are so many together
+pub passed_twice : (p : Place) (m n : ℕ) → passed_over n (passed_over m p) ≡ passed_over (m + n) p
+passed_twice p m n =
+    let sum : p.passed + m + n ≡ p.passed + (m + n) = omega arith in
+    ap (λ (l : List ℕ). let q : Place = record p { held = l; passed = p.passed + m + n } in q) (drop-drop n m p.held)
+    ∙ ap (λ (k : ℕ). let q : Place = record p { held = drop (m + n) p.held; passed = k } in q) sum
+
+-- what comes behind the first m bytes
+coming_behind : (st : Standing) (r s : List ℕ) (m : ℕ) → (m ≤ length r → s ≡ drop m r) → m ≤ length (if stands_in_content st then r else []) → (if stands_in_content st then s else []) ≡ drop m (if stands_in_content st then r else [])
+coming_behind Start r s m same h = sym (drop-nil m)
+coming_behind Content r s m same h = same h
+coming_behind Comment r s m same h = sym (drop-nil m)
+
+pub coming_passed : (p : Place) (m : ℕ) → p.passed ≤ most_bytes → m ≤ length (coming p) → coming (passed_over m p) ≡ drop m (coming p)
+coming_passed p m bound h = coming_behind p.standing (readable p) (readable (passed_over m p)) m by_room h
+  where
+    by_room : m ≤ length (readable p) → readable (passed_over m p) ≡ drop m (readable p)
+    by_room within =
+        let less : room (passed_over m p) + m ≡ room p = omega (arith, length-take (room p) p.held, within, bound) in
+        let more : m + room (passed_over m p) ≡ room p = omega (arith, less) in
+        sym (drop-take m (room (passed_over m p)) p.held) ∙ ap (λ k. drop m (take k p.held)) more
+
+-- the bytes behind a space are those that come, without it
+spaced : (st : Standing) (r : List ℕ) → (if stands_in_content st then without_space r else []) ≡ without_space (if stands_in_content st then r else [])
+spaced Start r = refl
+spaced Content r = refl
+spaced Comment r = refl
+
+pub coming_space : (p : Place) → behind_space p ≡ without_space (coming p)
+coming_space p = spaced p.standing (readable p)
 
 -- ---- A line feed
 

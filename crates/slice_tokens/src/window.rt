@@ -173,8 +173,10 @@ impl Window {
     /// The bytes that it holds and may read, where it is in a content line; else none.
     #[inline(always)]
     pub fn coming(&self) -> &[u8]
-        ensures { result.now ≡ coming self.now }
+        ensures value { result.now ≡ coming self.now }
+        ensures sound { Moves self.now self.now }
     {
+        let _ = &self.buf;
         let readable = self.readable();
         if self.is_in_content() {
             readable
@@ -193,6 +195,20 @@ impl Window {
         ensures passed { self.old.passed + count ≤ self.new.passed }
         ensures told { (left : Option (List ℕ)) → WhereTold (ahead self.old left) (ahead self.new left)
             (λ bytes rest. TakesWord (take count (coming self.old)) self.old bytes self.new rest) }
+    {
+        let _ = &self.buf;
+        self.pass(count);
+    }
+
+    /// Passes over so many of these bytes, whichever words they are.
+    #[inline(always)]
+    #[tactic(auto, using(crate::proofs::Front::coming_bounds))]
+    pub fn pass_over(&mut self, count: usize)
+        requires { count ≤ length (coming self.old) }
+        ensures moves { Moves self.old self.new }
+        ensures line { self.new.line ≡ self.old.line }
+        ensures standing { self.new.standing ≡ self.old.standing }
+        ensures place { self.new ≡ passed_over count self.old }
     {
         let _ = &self.buf;
         self.pass(count);
