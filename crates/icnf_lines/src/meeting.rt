@@ -48,11 +48,7 @@ fn pass_same(window: &mut Window, held: &[Lit], assumed: &[Lit]) -> bool
 }
 
 /// Reads the end of a line whose literals are an event's, where nothing is assumed.
-fn meet_same<S: Source>(
-    window: &mut Window,
-    src: &mut S,
-    held: &[Lit],
-) -> Result<Met, LineFault>
+fn meet_same<S: Source>(window: &mut Window, src: &mut S, held: &[Lit]) -> Result<Met, LineFault>
     ensures stays { Stays window.old window.new }
     ensures told { (o : Place) (before : Option (List ℕ)) → WhereTold (ahead o before) (ahead window.old (S.left src.old)) (λ t u. ReadsPart literal_list (Ok held.now) o t window.old u)
         → partners.MeetsLiterals held.now [] result o before window.new (S.left src.new) }

@@ -13,16 +13,15 @@ ghost use Rattle.line_reading.specs.Whole.{ReadsRest, LineAnswers};
 #[cfg(test)]
 mod tests;
 
-use line_reading::{enter_line, literals_rest, status_rest};
+use line_reading::{Spare, enter_line, literals_rest, status_rest};
 use outside::Source;
 use session_rules::{Event, Letter, LineFault, Rule};
 use slice_tokens::Window;
-use std::alloc::Global;
 
 /// What stands in a line behind an event's letter; another letter breaks Letter. The window's numbers are within their bounds
 /// after a letter was read.
 pub fn read_event<S: Source>(
-    alloc: Global,
+    spare: &mut Spare,
     window: &mut Window,
     src: &mut S,
     letter: Letter,
@@ -36,23 +35,23 @@ pub fn read_event<S: Source>(
     ensures read { IsErrOf result LineFault.Read → Rose (S.faults src.old) (S.faults src.new) }
 {
     match letter {
-        Letter::Input => Ok(Event::Input(literals_rest(alloc, window, src)?)),
-        Letter::Query => Ok(Event::Query(literals_rest(alloc, window, src)?)),
+        Letter::Input => Ok(Event::Input(literals_rest(spare, window, src)?)),
+        Letter::Query => Ok(Event::Query(literals_rest(spare, window, src)?)),
         Letter::Status => Ok(Event::Status(status_rest(window, src)?)),
-        Letter::Model => Ok(Event::Model(literals_rest(alloc, window, src)?)),
-        Letter::Core => Ok(Event::Core(literals_rest(alloc, window, src)?)),
+        Letter::Model => Ok(Event::Model(literals_rest(spare, window, src)?)),
+        Letter::Core => Ok(Event::Core(literals_rest(spare, window, src)?)),
         _ => Err(LineFault::Syntax(Rule::Letter)),
     }
 }
 
-/// The next content line; none exactly at the end of the stream.
+/// The next content line, its lists in the memory that is spare; none exactly at the end of the stream.
 ///
 /// # Errors
 ///
 /// `Syntax` comes exactly where the line breaks a rule of syntax, and is that of its first word at fault; the window then
 /// stands in that line. `Read` comes only where the source's count rose. `Memory` is want of memory.
 pub fn read_line<S: Source>(
-    alloc: Global,
+    spare: &mut Spare,
     window: &mut Window,
     src: &mut S,
 ) -> Result<Option<Event>, LineFault>
@@ -65,7 +64,7 @@ pub fn read_line<S: Source>(
 {
     match enter_line(window, src) {
         Ok(None) => Ok(None),
-        Ok(Some(letter)) => match read_event(alloc, window, src, letter) {
+        Ok(Some(letter)) => match read_event(spare, window, src, letter) {
             Ok(event) => Ok(Some(event)),
             Err(fault) => Err(fault),
         },

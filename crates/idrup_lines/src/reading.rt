@@ -14,15 +14,14 @@ ghost use Rattle.line_reading.specs.Whole.{ReadsRest, LineAnswers};
 mod tests;
 
 use icnf_lines::read_event;
-use line_reading::{enter_line, literals_rest};
+use line_reading::{Spare, enter_line, literals_rest};
 use outside::Source;
 use session_rules::{Letter, LineFault, Step};
 use slice_tokens::Window;
-use std::alloc::Global;
 
 // What stands in a line behind its letter.
 fn read_step<S: Source>(
-    alloc: Global,
+    spare: &mut Spare,
     window: &mut Window,
     src: &mut S,
     letter: Letter,
@@ -36,22 +35,22 @@ fn read_step<S: Source>(
     ensures read { IsErrOf result LineFault.Read → Rose (S.faults src.old) (S.faults src.new) }
 {
     match letter {
-        Letter::Lemma => Ok(Step::Lemma(literals_rest(alloc, window, src)?)),
-        Letter::Deletion => Ok(Step::Delete(literals_rest(alloc, window, src)?)),
-        Letter::Weakening => Ok(Step::Weaken(literals_rest(alloc, window, src)?)),
-        Letter::Restoring => Ok(Step::Restore(literals_rest(alloc, window, src)?)),
-        _ => Ok(Step::Event(read_event(alloc, window, src, letter)?)),
+        Letter::Lemma => Ok(Step::Lemma(literals_rest(spare, window, src)?)),
+        Letter::Deletion => Ok(Step::Delete(literals_rest(spare, window, src)?)),
+        Letter::Weakening => Ok(Step::Weaken(literals_rest(spare, window, src)?)),
+        Letter::Restoring => Ok(Step::Restore(literals_rest(spare, window, src)?)),
+        _ => Ok(Step::Event(read_event(spare, window, src, letter)?)),
     }
 }
 
-/// The next content line; none exactly at the end of the stream.
+/// The next content line, its lists in the memory that is spare; none exactly at the end of the stream.
 ///
 /// # Errors
 ///
 /// `Syntax` comes exactly where the line breaks a rule of syntax, and is that of its first word at fault; the window then
 /// stands in that line. `Read` comes only where the source's count rose. `Memory` is want of memory.
 pub fn read_line<S: Source>(
-    alloc: Global,
+    spare: &mut Spare,
     window: &mut Window,
     src: &mut S,
 ) -> Result<Option<Step>, LineFault>
@@ -64,7 +63,7 @@ pub fn read_line<S: Source>(
 {
     match enter_line(window, src) {
         Ok(None) => Ok(None),
-        Ok(Some(letter)) => match read_step(alloc, window, src, letter) {
+        Ok(Some(letter)) => match read_step(spare, window, src, letter) {
             Ok(step) => Ok(Some(step)),
             Err(fault) => Err(fault),
         },

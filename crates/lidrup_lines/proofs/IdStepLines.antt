@@ -1,11 +1,9 @@
 -- What stands in a line of a proof with ids behind its letter.
-use Rattle.std.proofs.Common.{◌≡◌, ℕ, List, [], ◌∷◌, Ok, Err, refl, ap, ◌∙◌}
-use Rattle.std.specs.declared.option.Option.{Option}
-use Rattle.std.specs.declared.result.Result.{Result}
+use Rattle.std.proofs.Common.{◌≡◌, ℕ, List, [], ◌∷◌, Ok, Err, refl}
 use Rattle.session_rules.specs.declared.Letter.TheVariants as letters
 use Rattle.session_rules.specs.declared.LStep.{LStep}
 use Rattle.session_rules.specs.declared.LStep.TheVariants as lsteps
-use Rattle.session_rules.specs.Reading.{Fault, ◌>>=◌, Part, own_id, literal_list, id_list, whole, id_step_at, lidrup_line, by_letter}
+use Rattle.session_rules.specs.Reading.{◌>>=◌, Part, own_id, literal_list, id_list, whole, id_step_at, lidrup_line, by_letter}
 use Rattle.line_reading.specs.Whole.{id_literals_rest, id_literals_ids_rest, literals_ids_rest}
 use Rattle.line_reading.proofs.Resting.{mapped}
 

@@ -14,17 +14,16 @@ ghost use Rattle.line_reading.specs.Whole.{ReadsRest, LineAnswers};
 mod tests;
 
 use line_reading::{
-    enter_line, id_literals_ids_rest, id_literals_rest, ids_rest, literals_ids_rest, literals_rest,
-    status_rest,
+    Spare, enter_line, id_literals_ids_rest, id_literals_rest, ids_rest, literals_ids_rest,
+    literals_rest, status_rest,
 };
 use outside::Source;
 use session_rules::{LStep, Letter, LineFault, Rule};
 use slice_tokens::Window;
-use std::alloc::Global;
 
 // What stands in a line behind its letter.
 fn read_step<S: Source>(
-    alloc: Global,
+    spare: &mut Spare,
     window: &mut Window,
     src: &mut S,
     letter: Letter,
@@ -39,35 +38,35 @@ fn read_step<S: Source>(
 {
     match letter {
         Letter::Input => {
-            let (id, lits) = id_literals_rest(alloc, window, src)?;
+            let (id, lits) = id_literals_rest(spare, window, src)?;
             Ok(LStep::Input { id, lits })
         }
         Letter::Lemma => {
-            let (id, lits, hints) = id_literals_ids_rest(alloc, window, src)?;
+            let (id, lits, hints) = id_literals_ids_rest(spare, window, src)?;
             Ok(LStep::Lemma { id, lits, hints })
         }
         Letter::Core => {
-            let (lits, hints) = literals_ids_rest(alloc, window, src)?;
+            let (lits, hints) = literals_ids_rest(spare, window, src)?;
             Ok(LStep::Core { lits, hints })
         }
-        Letter::Query => Ok(LStep::Query(literals_rest(alloc, window, src)?)),
+        Letter::Query => Ok(LStep::Query(literals_rest(spare, window, src)?)),
         Letter::Status => Ok(LStep::Status(status_rest(window, src)?)),
-        Letter::Model => Ok(LStep::Model(literals_rest(alloc, window, src)?)),
-        Letter::Deletion => Ok(LStep::Delete(ids_rest(alloc, window, src)?)),
-        Letter::Weakening => Ok(LStep::Weaken(ids_rest(alloc, window, src)?)),
-        Letter::Restoring => Ok(LStep::Restore(ids_rest(alloc, window, src)?)),
+        Letter::Model => Ok(LStep::Model(literals_rest(spare, window, src)?)),
+        Letter::Deletion => Ok(LStep::Delete(ids_rest(spare, window, src)?)),
+        Letter::Weakening => Ok(LStep::Weaken(ids_rest(spare, window, src)?)),
+        Letter::Restoring => Ok(LStep::Restore(ids_rest(spare, window, src)?)),
         Letter::NoLetter => Err(LineFault::Syntax(Rule::Letter)),
     }
 }
 
-/// The next content line; none exactly at the end of the stream.
+/// The next content line, its lists in the memory that is spare; none exactly at the end of the stream.
 ///
 /// # Errors
 ///
 /// `Syntax` comes exactly where the line breaks a rule of syntax, and is that of its first word at fault; the window then
 /// stands in that line. `Read` comes only where the source's count rose. `Memory` is want of memory.
 pub fn read_line<S: Source>(
-    alloc: Global,
+    spare: &mut Spare,
     window: &mut Window,
     src: &mut S,
 ) -> Result<Option<LStep>, LineFault>
@@ -80,7 +79,7 @@ pub fn read_line<S: Source>(
 {
     match enter_line(window, src) {
         Ok(None) => Ok(None),
-        Ok(Some(letter)) => match read_step(alloc, window, src, letter) {
+        Ok(Some(letter)) => match read_step(spare, window, src, letter) {
             Ok(step) => Ok(Some(step)),
             Err(fault) => Err(fault),
         },

@@ -8,6 +8,7 @@ mod kinds;
 mod lists;
 mod rests;
 mod runs;
+mod spare;
 mod words;
 
 pub use entering::enter_line;
@@ -18,6 +19,7 @@ pub use rests::{
     id_literals_ids_rest, id_literals_rest, ids_rest, literals_ids_rest, literals_rest, status_rest,
 };
 pub use runs::pass_literals;
+pub use spare::Spare;
 pub use words::{WordKind, end_line, next_word};
 
 #[cfg(test)]

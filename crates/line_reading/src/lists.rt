@@ -1,5 +1,5 @@
 // The parts of lines: the letter, lists of literals and of ids, the line's own id, and the status.
-ghost use Rattle.std.specs.Prelude.{◌≡◌, ◌≤◌, [], IsErrOf};
+ghost use Rattle.std.specs.Prelude.{◌≤◌, IsErrOf};
 ghost use Rattle.outside.specs.Faults.{Rose};
 ghost use Rattle.session_rules.specs.declared.LineFault.{LineFault};
 ghost use Rattle.session_rules.specs.Reading.{literal_list, id_list, own_id, status_word};
@@ -8,41 +8,17 @@ ghost use Rattle.line_reading.specs.Parts.{ReadsPart, Stays};
 
 use crate::kinds::{IdWords, LiteralWords, OwnIdWords, StatusWords};
 use crate::runs::push_run;
+use crate::spare::{Spare, empty_ids, empty_literals};
 use crate::words::next_word;
 use lits::Lits;
 use outside::Source;
 use session_rules::{Id, Ids, LineFault, StatusWord};
 use slice_tokens::Window;
-use std::alloc::{AllocError, Global};
-
-// How many literals, and how many ids, an empty list has room for: those of an ordinary line, so that its list needn't grow.
-const LITERALS: usize = 14;
-
-const IDS: usize = 15;
-
-// A list without a literal, with room for some where there is memory.
-fn empty_literals(alloc: Global) -> Lits
-    ensures { result ≡ [] }
-{
-    match Vec::with_capacity(alloc, LITERALS) {
-        Ok(items) => Lits::from_vec(items),
-        Err(AllocError) => Lits::new(alloc),
-    }
-}
-
-// A list without an id, with room for some where there is memory.
-fn empty_ids(alloc: Global) -> Ids
-    ensures { result ≡ [] }
-{
-    match Vec::with_capacity(alloc, IDS) {
-        Ok(items) => Ids::from_vec(items),
-        Err(AllocError) => Ids::new(alloc),
-    }
-}
+use std::alloc::AllocError;
 
 /// Literals up to the 0 that ends their list.
 pub fn read_literals<S: Source>(
-    alloc: Global,
+    spare: &mut Spare,
     window: &mut Window,
     src: &mut S,
 ) -> Result<Lits, LineFault>
@@ -52,7 +28,7 @@ pub fn read_literals<S: Source>(
     ensures count { S.faults src.old ≤ S.faults src.new }
     ensures read { IsErrOf result LineFault.Read → Rose (S.faults src.old) (S.faults src.new) }
 {
-    let mut lits = empty_literals(alloc);
+    let mut lits = empty_literals(spare);
     match push_run(window.coming(), &mut lits) {
         Ok((count, true)) => {
             window.pass_over(count);
@@ -76,7 +52,7 @@ pub fn read_literals<S: Source>(
 
 /// Ids up to the 0 that ends their list.
 pub fn read_ids<S: Source>(
-    alloc: Global,
+    spare: &mut Spare,
     window: &mut Window,
     src: &mut S,
 ) -> Result<Ids, LineFault>
@@ -86,7 +62,7 @@ pub fn read_ids<S: Source>(
     ensures count { S.faults src.old ≤ S.faults src.new }
     ensures read { IsErrOf result LineFault.Read → Rose (S.faults src.old) (S.faults src.new) }
 {
-    let mut ids = empty_ids(alloc);
+    let mut ids = empty_ids(spare);
     'ids: loop {
         match next_word::<S, IdWords>(window, src) {
             Ok(Some(id)) => {

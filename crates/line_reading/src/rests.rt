@@ -7,16 +7,16 @@ ghost use Rattle.line_reading.specs.Parts.{Stays};
 ghost use Rattle.line_reading.specs.Whole.{ReadsRest, literals_rest, ids_rest, status_rest, id_literals_rest, id_literals_ids_rest, literals_ids_rest};
 
 use crate::lists::{read_id, read_ids, read_literals, read_status};
+use crate::spare::Spare;
 use crate::words::end_line;
 use lits::Lits;
 use outside::Source;
 use session_rules::{Id, Ids, LineFault, StatusWord};
 use slice_tokens::Window;
-use std::alloc::Global;
 
 /// Literals and a 0.
 pub fn literals_rest<S: Source>(
-    alloc: Global,
+    spare: &mut Spare,
     window: &mut Window,
     src: &mut S,
 ) -> Result<Lits, LineFault>
@@ -26,14 +26,14 @@ pub fn literals_rest<S: Source>(
     ensures count { S.faults src.old ≤ S.faults src.new }
     ensures read { IsErrOf result LineFault.Read → Rose (S.faults src.old) (S.faults src.new) }
 {
-    let lits = read_literals(alloc, window, src)?;
+    let lits = read_literals(spare, window, src)?;
     end_line(window, src)?;
     Ok(lits)
 }
 
 /// Ids and a 0.
 pub fn ids_rest<S: Source>(
-    alloc: Global,
+    spare: &mut Spare,
     window: &mut Window,
     src: &mut S,
 ) -> Result<Ids, LineFault>
@@ -43,7 +43,7 @@ pub fn ids_rest<S: Source>(
     ensures count { S.faults src.old ≤ S.faults src.new }
     ensures read { IsErrOf result LineFault.Read → Rose (S.faults src.old) (S.faults src.new) }
 {
-    let ids = read_ids(alloc, window, src)?;
+    let ids = read_ids(spare, window, src)?;
     end_line(window, src)?;
     Ok(ids)
 }
@@ -64,7 +64,7 @@ pub fn status_rest<S: Source>(window: &mut Window, src: &mut S) -> Result<Status
 
 /// The line's own id, and literals and a 0.
 pub fn id_literals_rest<S: Source>(
-    alloc: Global,
+    spare: &mut Spare,
     window: &mut Window,
     src: &mut S,
 ) -> Result<(Id, Lits), LineFault>
@@ -75,13 +75,13 @@ pub fn id_literals_rest<S: Source>(
     ensures read { IsErrOf result LineFault.Read → Rose (S.faults src.old) (S.faults src.new) }
 {
     let id = read_id(window, src)?;
-    let lits = literals_rest(alloc, window, src)?;
+    let lits = literals_rest(spare, window, src)?;
     Ok((id, lits))
 }
 
 /// The line's own id, literals and a 0, and ids and a 0.
 pub fn id_literals_ids_rest<S: Source>(
-    alloc: Global,
+    spare: &mut Spare,
     window: &mut Window,
     src: &mut S,
 ) -> Result<(Id, Lits, Ids), LineFault>
@@ -92,13 +92,13 @@ pub fn id_literals_ids_rest<S: Source>(
     ensures read { IsErrOf result LineFault.Read → Rose (S.faults src.old) (S.faults src.new) }
 {
     let id = read_id(window, src)?;
-    let (lits, ids) = literals_ids_rest(alloc, window, src)?;
+    let (lits, ids) = literals_ids_rest(spare, window, src)?;
     Ok((id, lits, ids))
 }
 
 /// Literals and a 0, and ids and a 0.
 pub fn literals_ids_rest<S: Source>(
-    alloc: Global,
+    spare: &mut Spare,
     window: &mut Window,
     src: &mut S,
 ) -> Result<(Lits, Ids), LineFault>
@@ -108,7 +108,7 @@ pub fn literals_ids_rest<S: Source>(
     ensures count { S.faults src.old ≤ S.faults src.new }
     ensures read { IsErrOf result LineFault.Read → Rose (S.faults src.old) (S.faults src.new) }
 {
-    let lits = read_literals(alloc, window, src)?;
-    let ids = ids_rest(alloc, window, src)?;
+    let lits = read_literals(spare, window, src)?;
+    let ids = ids_rest(spare, window, src)?;
     Ok((lits, ids))
 }

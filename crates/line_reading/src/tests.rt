@@ -1,5 +1,5 @@
 // Lines that are read by their letter, and one whose word is no number.
-use crate::{enter_line, literals_ids_rest, literals_rest, status_rest};
+use crate::{Spare, enter_line, literals_ids_rest, literals_rest, status_rest};
 use outside::MemorySource;
 use session_rules::{Letter, LineFault, Rule, StatusWord};
 use slice_tokens::Window;
@@ -21,14 +21,16 @@ fn lines_are_read_by_their_letter(rt: HostRuntime) -> Result<(), Fail> {
         b"c a comment\ni 3 -1 0\ns UNKNOWN\nu 2 0 7 0\nl 01 0\n",
     )?;
     let mut window = Window::new(alloc)?;
+    let mut spare = Spare::new(alloc);
     assert_eq!(rt;
         enter_line(&mut window, &mut source).ok().flatten(),
         Some(Letter::Input)
     );
-    let input = literals_rest(alloc, &mut window, &mut source)
+    let input = literals_rest(&mut spare, &mut window, &mut source)
         .ok()
         .ok_or("input")?;
     assert_eq!(rt; input.len(), 2);
+    spare.lits = Some(input);
     assert_eq!(rt;
         enter_line(&mut window, &mut source).ok().flatten(),
         Some(Letter::Status)
@@ -41,7 +43,7 @@ fn lines_are_read_by_their_letter(rt: HostRuntime) -> Result<(), Fail> {
         enter_line(&mut window, &mut source).ok().flatten(),
         Some(Letter::Core)
     );
-    let (core, hints) = literals_ids_rest(alloc, &mut window, &mut source)
+    let (core, hints) = literals_ids_rest(&mut spare, &mut window, &mut source)
         .ok()
         .ok_or("core")?;
     assert_eq!(rt; core.len(), 1);
@@ -50,7 +52,7 @@ fn lines_are_read_by_their_letter(rt: HostRuntime) -> Result<(), Fail> {
         enter_line(&mut window, &mut source).ok().flatten(),
         Some(Letter::Lemma)
     );
-    let fault = literals_rest(alloc, &mut window, &mut source).err();
+    let fault = literals_rest(&mut spare, &mut window, &mut source).err();
     assert_eq!(rt; fault, Some(LineFault::Syntax(Rule::Number)));
     assert_eq!(rt; window.line(), 5);
     Ok(())

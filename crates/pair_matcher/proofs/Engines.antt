@@ -1,5 +1,5 @@
 -- The clauses of an engine, and what its calls change.
-use Rattle.std.proofs.Common.{◌≡◌, ◌≢◌, ℕ, Bool, true, false, if◌then◌else◌, List, [], Contains, Option, Some, None, refl, sym, ap, ◌∙◌, subst, IsTrue}
+use Rattle.std.proofs.Common.{◌≡◌, ℕ, Bool, true, false, if◌then◌else◌, List, [], Option, Some, None, refl, sym, ap, ◌∙◌, subst}
 use Rattle.std.specs.Prelude.{is_some, option_map, option_and_then, unwrap_or}
 use Rattle.std.proofs.lemmas.Option.{same_Some}
 use Rattle.std.specs.FinMap as finmap
@@ -16,7 +16,7 @@ use Rattle.propagation.specs.Clauses as seen
 use Rattle.propagation.specs.Clauses.{Clause, clause_of, clauses_of, active, active_at, slot_of}
 use Rattle.propagation.specs.Engine.{EngineView, with_clauses, active_clause, weakened_clause, IsRestored, Grows}
 use Rattle.propagation.proofs.ClausesMap.{get-clauses_of, Contains-active, at_active}
-use Rattle.side_laws.specs.Kept.{Kept, kept, kept_by, kept_of_held, clauses_of_store, standing_of, ChangesAt}
+use Rattle.side_laws.specs.Kept.{kept, kept_of_held, clauses_of_store, standing_of, ChangesAt}
 use Rattle.side_laws.specs.Sets.{HoldsSets, AreActive}
 use Rattle.side_laws.proofs.Maps.{get-kept_by, changes-insert, changes-remove}
 use Rattle.side_laws.proofs.Stores.{active-store, weakened-store, get-active, get-weakened}

@@ -1,5 +1,5 @@
 -- That all variables stay within the room that was made.
-use Rattle.std.proofs.Common.{◌≡◌, ℕ, ◌+◌, ◌<◌, ◌≤◌, max, List, [], ◌∷◌, ◌++◌, length, map, take, get_or, true, All, Contains, Option, Some, None, option_map, refl, sym, ap, ◌∙◌, subst, arith, add-one, le_trans}
+use Rattle.std.proofs.Common.{◌≡◌, ℕ, ◌+◌, ◌<◌, ◌≤◌, max, List, [], ◌∷◌, ◌++◌, length, map, take, get_or, true, Contains, Some, None, option_map, refl, sym, ap, ◌∙◌, subst, arith, add-one, le_trans}
 use Rattle.std.proofs.Math.Seq.{take-suc}
 use Rattle.std.proofs.lemmas.List.{map-append, take_all}
 use Rattle.std.proofs.lemmas.List.Elements.{All-contains, All-more, All-map, All-weaker}
@@ -11,7 +11,7 @@ use Rattle.lits.proofs.Literal.{var-neg}
 use Rattle.lits.proofs.Ascending.{set_of_at}
 use Rattle.clause_store.specs.Clauses.{Held, Store, new_clause}
 use Rattle.session_events.specs.State.{State, StandsFor, start, AreReserved, with_reserved}
-use Rattle.side_laws.specs.Kept.{Kept, kept, kept_of_held, clauses_of_store, AreWithin}
+use Rattle.side_laws.specs.Kept.{kept, kept_of_held, clauses_of_store, AreWithin}
 use Rattle.side_laws.proofs.Maps.{get-kept_by, empty-kept_by}
 use Rattle.side_laws.proofs.Stores.{store_added, within-change, within-empty}
 use Rattle.side_laws.specs.Ids.{HoldsIds}

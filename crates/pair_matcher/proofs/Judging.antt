@@ -1,12 +1,10 @@
 -- What the judgement of each step with ids rests on.
-use Rattle.std.proofs.Common.{◌≡◌, ℕ, ◌≤◌, Bool, true, false, not, List, [], ◌∷◌, ◌++◌, map, filter_map, flat_map, Contains, Option, Some, None, option_map, refl, sym, ap, ◌∙◌, subst, append-nil}
-use Rattle.std.specs.Prelude.{slice_get, IfNone}
+use Rattle.std.proofs.Common.{◌≡◌, ℕ, Bool, true, false, not, List, [], ◌∷◌, ◌++◌, map, flat_map, Option, Some, None, option_map, refl, sym, ap, ◌∙◌, subst, append-nil}
+use Rattle.std.specs.Prelude.{slice_get}
 use Rattle.std.proofs.Math.Path.{fun_ext}
 use Rattle.std.proofs.lemmas.List.Elements.{filter_map-append}
 use Rattle.std.specs.FinMap as finmap
-use Rattle.std.specs.FinMap.{get}
-use Rattle.lits.specs.Literal.{neg, var}
-use Rattle.lits.specs.Clause.{set_of}
+use Rattle.lits.specs.Literal.{neg}
 use Rattle.session_rules.specs.declared.StatusWord.{StatusWord}
 use Rattle.session_rules.specs.declared.Event.{Event}
 use Rattle.session_rules.specs.declared.Event.TheVariants as events
@@ -17,24 +15,23 @@ use Rattle.session_rules.specs.declared.Rule.TheVariants as rules
 use Rattle.session_rules.specs.declared.Standing.{Standing}
 use Rattle.session_rules.specs.declared.Standing.TheVariants.{Active, Weakened, Absent}
 use Rattle.session_rules.specs.Logic.{hints_fail}
-use Rattle.session_rules.specs.History.{broken_at, broken_unless, order_faults, model_faults, core_faults}
+use Rattle.session_rules.specs.History.{broken_at, order_faults, model_faults, core_faults}
 use Rattle.session_rules.specs.Own as own
 use Rattle.session_rules.specs.Own.{given_clause, mentions, standing_after, active_clause, first_not, id_event_of, id_events_of, id_faults, hint_faults, own_id_faults}
-use Rattle.clause_store.specs.Clauses as store
-use Rattle.clause_store.specs.Clauses.{Held, Store, is_held, new_clause}
+use Rattle.clause_store.specs.Clauses.{Store, is_held, new_clause}
 use Rattle.clause_store.specs.declared.StoreFault.{StoreFault}
 use Rattle.clause_store.specs.declared.StoreFault.TheVariants.{IdTaken, Memory}
 use Rattle.hint_check.specs.Hints.{active_at, end_of}
 use Rattle.hint_check.specs.declared.HintEnd.{HintEnd}
 use Rattle.hint_check.specs.declared.HintEnd.TheVariants.{Closed, Fails}
 use Rattle.session_events.specs.State.{State, StandsFor, kind_of, order_rules, model_rules, core_rules}
-use Rattle.side_laws.specs.Kept.{Kept, Clauses, kept, clauses_of_store, standing_of, active_in, ChangesAt}
+use Rattle.side_laws.specs.Kept.{Clauses, clauses_of_store}
 use Rattle.side_laws.specs.Ids.{HoldsIds}
 use Rattle.side_laws.proofs.Ids.{holds_given, holds_silent, hints_over_kept}
 use Rattle.side_laws.proofs.Stores.{absent-store, store_added, active_in-store}
 use Rattle.pair_matcher.specs.Sides.{first_rule, AreAfterIds, JudgedId}
 use Rattle.pair_matcher.specs.Turns.{Turned}
-use Rattle.pair_matcher.proofs.Rules.{first-get, first-skip, first-here, first-broken, first-kept, first-unkept, order_is, model_is, core_is}
+use Rattle.pair_matcher.proofs.Rules.{first-skip, first-here, first-broken, first-kept, first-unkept, order_is, model_is, core_is}
 
 -- ---- Events
 

@@ -1,9 +1,8 @@
 -- What the judgement of each step without ids rests on.
 use Rattle.std.proofs.Common.{◌≡◌, ℕ, ◌+◌, Bool, true, false, nat_lt, List, [], ◌∷◌, ◌++◌, map, Option, Some, None, Result, Ok, Err, refl, sym, ap, ◌∙◌, subst, append-nil}
-use Rattle.std.specs.Prelude.{slice_get, IfNone, IfOk}
+use Rattle.std.specs.Prelude.{slice_get, IfOk}
 use Rattle.std.proofs.lemmas.List.Elements.{filter_map-append}
 use Rattle.std.specs.FinMap as finmap
-use Rattle.std.specs.FinMap.{get}
 use Rattle.std.specs.declared.alloc.AllocError.{AllocError}
 use Rattle.lits.specs.Literal.{neg}
 use Rattle.lits.specs.Clause.{has, same_set, set_of}
@@ -19,7 +18,7 @@ use Rattle.session_rules.specs.declared.Rule.{Rule}
 use Rattle.session_rules.specs.declared.Rule.TheVariants as rules
 use Rattle.session_rules.specs.Logic.{closes, Closes}
 use Rattle.session_rules.specs.History.{broken_unless, order_faults, model_faults, core_faults}
-use Rattle.session_rules.specs.Own.{added_clause, removed_clause, weakened_clause, restored_clause, active_copies, weakened_copies, active_clauses, event_of, events_of, event_faults, own_faults}
+use Rattle.session_rules.specs.Own.{added_clause, active_copies, weakened_copies, active_clauses, event_of, events_of, own_faults}
 use Rattle.clause_store.specs.Clauses as store
 use Rattle.clause_store.specs.Clauses.{Store}
 use Rattle.propagation.specs.Clauses as seen
@@ -32,8 +31,8 @@ use Rattle.side_laws.specs.Sets.{new_clause, HoldsSets}
 use Rattle.side_laws.proofs.Held.{holds_no_sets, sets_silent, sets_given, sets_deleted, sets_weakened, sets_restored, active_some, weakened_some, active_none, weakened_none}
 use Rattle.pair_matcher.specs.Sides.{first_rule, AreAfter, Judged}
 use Rattle.pair_matcher.specs.Inside.{kept_of_clause, clauses_of_engine}
-use Rattle.pair_matcher.proofs.Rules.{first-get, first-skip, first-here, first-kept, first-unkept, order_is, model_is, core_is}
-use Rattle.pair_matcher.proofs.Engines.{found_active, found_weakened, none_active, none_weakened, engine_added, engine_deleted, engine_weakened, engine_restored, closes_is, grown_clauses}
+use Rattle.pair_matcher.proofs.Rules.{first-skip, first-here, first-kept, first-unkept, order_is, model_is, core_is}
+use Rattle.pair_matcher.proofs.Engines.{found_active, found_weakened, none_active, none_weakened, engine_deleted, engine_weakened, engine_restored, closes_is, grown_clauses}
 use Rattle.side_laws.proofs.Maps.{empty-kept_by}
 use Rattle.std.specs.Cmp.{nat_cmp_total}
 use Rattle.std.specs.Ordering.{nat_cmp}

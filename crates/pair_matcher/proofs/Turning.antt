@@ -1,7 +1,6 @@
 -- The three loops over a list of ids.
-use Rattle.std.proofs.Common.{◌≡◌, ℕ, ◌+◌, ◌<◌, ◌≤◌, Bool, true, false, List, [], ◌∷◌, ◌++◌, length, take, get_or, Option, Some, None, refl, sym, ap, ◌∙◌, subst, Contains}
+use Rattle.std.proofs.Common.{◌≡◌, ℕ, ◌+◌, ◌<◌, ◌≤◌, Bool, true, false, List, length, take, get_or, Some, None, refl, sym, ◌∙◌, subst, Contains}
 use Rattle.std.specs.FinMap as finmap
-use Rattle.lits.specs.Literal.{var}
 use Rattle.session_rules.specs.declared.LStep.{LStep}
 use Rattle.session_rules.specs.declared.LStep.TheVariants as lsteps
 use Rattle.session_rules.specs.declared.Standing.{Standing}
@@ -12,8 +11,7 @@ use Rattle.clause_store.specs.declared.StoreFault.TheVariants.{NotActive, NotWea
 use Rattle.clause_store.specs.Clauses as store
 use Rattle.clause_store.specs.Clauses.{Store, literals_at}
 use Rattle.std.proofs.lemmas.Option.{same_Some}
-use Rattle.side_laws.specs.Kept.{Kept, Clauses, kept, clauses_of_store, standing_of, AreWithin, ChangesAt}
-use Rattle.side_laws.specs.Ids.{HoldsIds}
+use Rattle.side_laws.specs.Kept.{kept, clauses_of_store, standing_of, AreWithin}
 use Rattle.side_laws.proofs.Ids.{holds_deleted, holds_weakened, holds_restored}
 use Rattle.side_laws.proofs.Stores.{active-store, weakened-store, get-active, get-weakened, store_deleted, store_weakened, store_restored, within-change}
 use Rattle.side_laws.proofs.Turns.{IsKind, Went, went-start, went-stop, went-on, went-all, went-end}

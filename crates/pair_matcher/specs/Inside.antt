@@ -1,6 +1,6 @@
 -- What holds inside the sides.
-use Rattle.std.specs.Prelude.{◌≡◌, ℕ, ◌≤◌, List, Contains, All, is_some}
-use Rattle.lits.specs.Literal.{max_var, var}
+use Rattle.std.specs.Prelude.{◌≡◌, ℕ, ◌≤◌, List, All, is_some}
+use Rattle.lits.specs.Literal.{var}
 use Rattle.clause_store.specs.Clauses.{Store}
 use Rattle.propagation.specs.Clauses.{Clause}
 use Rattle.propagation.specs.Engine.{EngineView, level_after}

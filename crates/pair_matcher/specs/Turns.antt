@@ -1,5 +1,5 @@
 -- What the steps with a list of ids do to a store.
-use Rattle.std.specs.Prelude.{◌≡◌, ℕ, Bool, List, [], ◌∷◌, ◌++◌, flat_map, Option, None, IfNone}
+use Rattle.std.specs.Prelude.{◌≡◌, ℕ, Bool, List, [], ◌∷◌, ◌++◌, flat_map, Option, IfNone}
 use Rattle.session_rules.specs.declared.LStep.{LStep}
 use Rattle.session_rules.specs.declared.Standing.{Standing}
 use Rattle.session_rules.specs.Own.{mentions, first_not}

@@ -1,7 +1,7 @@
 // The check of a pair, line by line. Each line of the proof is read, judged by itself, and held against its partner where it is
 // an event; so the first fault that is met is the first of all, and the check ends with it.
 
-ghost use Rattle.std.specs.Prelude.{◌≡◌, ℕ, ◌+◌, ◌<◌, ◌≤◌, ◌^◌, true, List, Option, Some, None, Err, All, length, max, OnOk, OnErr, IfOk, IfNone, IsErrOf};
+ghost use Rattle.std.specs.Prelude.{◌≡◌, ℕ, ◌+◌, ◌<◌, ◌≤◌, ◌^◌, true, List, Option, Some, None, Err, All, length, max, OnOk, OnErr, IfOk, IfNone, IfSome, IsErrOf};
 ghost use Rattle.lits.specs.Literal.{var};
 ghost use Rattle.outside.specs.Faults.{Rose};
 ghost use Rattle.session_rules.specs.declared.Verdict.TheVariants as verdicts;
@@ -16,6 +16,8 @@ use crate::lidrup::LidrupSide;
 use crate::literals::greatest_variable;
 use crate::proof_side::ProofSide;
 use icnf_lines::{HeaderFault, Marks, Match, MatchFault, match_line, read_header};
+use line_reading::Spare;
+use lits::Lits;
 use outside::{Failed, Source};
 use session_rules::{Event, Form, LineFault, Rule, Side, Verdict};
 use slice_tokens::{TokenFault, Window};
@@ -29,7 +31,8 @@ pub enum CheckFault {
     Memory = 3,
 }
 
-/// What a check is made of: the side of the proof, room for marks, a window over each file, and how many queries were passed.
+/// What a check is made of: the side of the proof, room for marks, a window over each file, how many queries were passed, and
+/// the memory for the lists of the next line.
 #[derive(Drop)]
 struct Check<P> {
     side: P,
@@ -37,7 +40,7 @@ struct Check<P> {
     asked: Window,
     told: Window,
     queries: u64,
-    alloc: Global,
+    spare: Spare,
 }
 
 // A refusal.
@@ -74,6 +77,18 @@ fn query_count(event: &Event) -> u64
     match event {
         Event::Query(_) => 1,
         _ => 0,
+    }
+}
+
+// The literals of an event, where it has some.
+fn into_literals(event: Event) -> Option<Lits>
+    ensures { IfSome result (λ ls. ls ≡ event_literals event) }
+{
+    match event {
+        Event::Input(lits) | Event::Query(lits) | Event::Model(lits) | Event::Core(lits) => {
+            Some(lits)
+        }
+        Event::Status(_) => None,
     }
 }
 
@@ -149,11 +164,15 @@ fn take_step<A: Source, P: ProofSide>(
         Ok(Some(rule)) => return Ok(Some(refused(Side::Proof, c.told.line(), rule))),
         Err(_) => return Err(CheckFault::Memory),
     }
-    match P::into_event(step) {
-        Some(event) => match take_event(c, interaction, &event) {
-            Ok(answer) => Ok(answer),
-            Err(fault) => Err(fault),
-        },
+    match P::into_event(step, &mut c.spare) {
+        Some(event) => {
+            let taken = take_event(c, interaction, &event);
+            c.spare.lits = into_literals(event);
+            match taken {
+                Ok(answer) => Ok(answer),
+                Err(fault) => Err(fault),
+            }
+        }
         None => Ok(None),
     }
 }
@@ -221,7 +240,7 @@ fn turn<A: Source, B: Source, P: ProofSide>(
     ensures read_interaction { IsErrOf result CheckFault.ReadInteraction → Rose (A.faults interaction.old) (A.faults interaction.new) }
     ensures read_proof { IsErrOf result CheckFault.ReadProof → Rose (B.faults proof.old) (B.faults proof.new) }
 {
-    match P::read_step(c.alloc, &mut c.told, proof) {
+    match P::read_step(&mut c.spare, &mut c.told, proof) {
         Ok(Some(step)) => match take_step(c, interaction, step) {
             Ok(answer) => Ok(answer),
             Err(fault) => Err(fault),
@@ -302,7 +321,7 @@ fn check_by<A: Source, B: Source, P: ProofSide>(
         asked,
         told,
         queries: 0,
-        alloc,
+        spare: Spare::new(alloc),
     };
     match take_lines(&mut check, interaction, proof) {
         Ok(verdict) => Ok(verdict),

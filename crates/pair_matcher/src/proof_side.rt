@@ -15,6 +15,7 @@ ghost use Rattle.pair_matcher.specs.Sides.{StandsFor, StandsForIds, first_rule};
 
 use crate::idrup::IdrupSide;
 use crate::lidrup::LidrupSide;
+use line_reading::Spare;
 use lits::Lit;
 use outside::Source;
 use session_rules::{Event, LStep, LineFault, Rule, Step};
@@ -46,9 +47,9 @@ pub trait ProofSide: Drop {
         ensures next { IfOk result (λ s. next s ≤ 1) }
         ensures stands { IfOk result (λ s. stands s []) };
 
-    /// The next content line of the proof; none exactly at its end.
+    /// The next content line of the proof, its lists in the memory that is spare; none exactly at its end.
     fn read_step<S: Source>(
-        alloc: Global,
+        spare: &mut Spare,
         window: &mut Window,
         src: &mut S,
     ) -> Result<Option<Self::Step>, LineFault>
@@ -82,8 +83,8 @@ pub trait ProofSide: Drop {
         ensures limit { result ≤ max_var }
         ensures asked { All (λ l. var l ≤ result) (asked self.now) };
 
-    /// The event of a step, where it is one.
-    fn into_event(step: Self::Step) -> Option<Event>
+    /// The event of a step, where it is one. Lists of the step that aren't the event's are spare from then on.
+    fn into_event(step: Self::Step, spare: &mut Spare) -> Option<Event>
         ensures { result ≡ form.event step };
 }
 
@@ -105,11 +106,11 @@ impl ProofSide for IdrupSide {
     }
 
     fn read_step<S: Source>(
-        alloc: Global,
+        spare: &mut Spare,
         window: &mut Window,
         src: &mut S,
     ) -> Result<Option<Step>, LineFault> {
-        idrup_lines::read_line(alloc, window, src)
+        idrup_lines::read_line(spare, window, src)
     }
 
     fn take_step(&mut self, step: &Step) -> Result<Option<Rule>, AllocError> {
@@ -128,10 +129,13 @@ impl ProofSide for IdrupSide {
         self.reserved()
     }
 
-    fn into_event(step: Step) -> Option<Event> {
+    fn into_event(step: Step, spare: &mut Spare) -> Option<Event> {
         match step {
             Step::Event(event) => Some(event),
-            _ => None,
+            Step::Lemma(lits) | Step::Delete(lits) | Step::Weaken(lits) | Step::Restore(lits) => {
+                spare.lits = Some(lits);
+                None
+            }
         }
     }
 }
@@ -154,11 +158,11 @@ impl ProofSide for LidrupSide {
     }
 
     fn read_step<S: Source>(
-        alloc: Global,
+        spare: &mut Spare,
         window: &mut Window,
         src: &mut S,
     ) -> Result<Option<LStep>, LineFault> {
-        lidrup_lines::read_line(alloc, window, src)
+        lidrup_lines::read_line(spare, window, src)
     }
 
     fn take_step(&mut self, step: &LStep) -> Result<Option<Rule>, AllocError> {
@@ -177,14 +181,25 @@ impl ProofSide for LidrupSide {
         self.reserved()
     }
 
-    fn into_event(step: LStep) -> Option<Event> {
+    fn into_event(step: LStep, spare: &mut Spare) -> Option<Event> {
         match step {
             LStep::Input { id: _, lits } => Some(Event::Input(lits)),
             LStep::Query(lits) => Some(Event::Query(lits)),
             LStep::Status(word) => Some(Event::Status(word)),
             LStep::Model(lits) => Some(Event::Model(lits)),
-            LStep::Core { lits, hints: _ } => Some(Event::Core(lits)),
-            LStep::Lemma { .. } | LStep::Delete(_) | LStep::Weaken(_) | LStep::Restore(_) => None,
+            LStep::Core { lits, hints } => {
+                spare.ids = Some(hints);
+                Some(Event::Core(lits))
+            }
+            LStep::Lemma { id: _, lits, hints } => {
+                spare.lits = Some(lits);
+                spare.ids = Some(hints);
+                None
+            }
+            LStep::Delete(ids) | LStep::Weaken(ids) | LStep::Restore(ids) => {
+                spare.ids = Some(ids);
+                None
+            }
         }
     }
 }

@@ -8,9 +8,8 @@ use Rattle.session_rules.specs.Lines.{Line, is_nil, is_line_feed, words, ends_in
 use Rattle.slice_tokens.specs.declared.window.Standing.{Standing}
 use Rattle.slice_tokens.specs.declared.window.Standing.TheVariants.{Start, Content, Comment}
 use Rattle.slice_tokens.specs.Place.{Place, WhereTold, room, ahead, lines_from, without_words, bare_line, present, following_of, following, later, is_cut, last_line}
-use Rattle.slice_tokens.specs.Calls.{Moves, SameLater, but_comment, SameContent, InLine, AtEnd, AtBound, OnlyCut}
+use Rattle.slice_tokens.specs.Calls.{Moves, but_comment, SameContent, InLine, AtEnd, AtBound, OnlyCut}
 use Rattle.slice_tokens.specs.Held.{Stays, Skips, Enters, EntersLine, readable}
-use Rattle.slice_tokens.proofs.Texts.{words_nil}
 use Rattle.slice_tokens.proofs.Rows.{rows, more_texts, first_text, counted}
 use Rattle.slice_tokens.proofs.Places.{visible, lines_are, present_line, present_bare, number_is, word_uncut, present_over, following_is, later_is, last_is}
 use Rattle.slice_tokens.proofs.Finding.{cut_is}

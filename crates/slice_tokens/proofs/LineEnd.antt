@@ -1,12 +1,11 @@
 -- What a look holds of the next word, and of a line's end.
-use Rattle.std.proofs.Common.{◌≡◌, ℕ, zero, suc, ◌+◌, ◌-◌, ◌<◌, ◌≤◌, Bool, true, false, List, [], ◌∷◌, ◌++◌, length, take, drop, Ok, if◌then◌else◌, refl, sym, ap, ◌∙◌, subst, arith, add-zero, length-take, length-drop, eqb-true}
+use Rattle.std.proofs.Common.{◌≡◌, ℕ, zero, suc, ◌+◌, ◌<◌, ◌≤◌, true, false, List, [], ◌∷◌, length, take, drop, Ok, if◌then◌else◌, refl, sym, ap, ◌∙◌, subst, arith, add-zero, length-take, length-drop, eqb-true}
 use Rattle.std.proofs.lemmas.Bool.{false≢true}
 use Rattle.std.proofs.lemmas.List.{drop-take, nil_from_length}
 use Rattle.std.proofs.lemmas.List.Sums.{prefix_len-le-length}
 use Rattle.std.specs.List.{prefix_len}
-use Rattle.session_rules.specs.Lines.{is_nil, is_blank, is_line_feed, most_bytes}
-use Rattle.slice_tokens.specs.declared.window.Standing.{Standing}
-use Rattle.slice_tokens.specs.declared.window.Standing.TheVariants.{Start, Content, Comment}
+use Rattle.session_rules.specs.Lines.{is_nil, is_blank, most_bytes}
+use Rattle.slice_tokens.specs.declared.window.Standing.TheVariants.{Content}
 use Rattle.slice_tokens.specs.Place.{Place, room}
 use Rattle.slice_tokens.specs.Calls.{begins_line_feed, stands_in_content, at_line_end}
 use Rattle.slice_tokens.specs.Held.{passed_over, is_word_byte, readable, blanks, word_len, Holds}

@@ -6,10 +6,10 @@ use Rattle.std.proofs.Math.Seq.{take-append-add}
 use Rattle.std.proofs.lemmas.List.Sums.{prefix_len-le-length, sum_by-cons}
 use Rattle.std.proofs.lemmas.List.Folds.{length-prefix_len}
 use Rattle.std.specs.List.{prefix_len, count_by}
-use Rattle.session_rules.specs.Lines.{Line, is_blank, is_line_feed, is_nil, ends_in_word, line_of, all_lines, counts, most_bytes}
+use Rattle.session_rules.specs.Lines.{is_blank, is_line_feed, is_nil, ends_in_word, line_of, all_lines, counts, most_bytes}
 use Rattle.slice_tokens.specs.declared.window.Standing.{Standing}
 use Rattle.slice_tokens.specs.declared.window.Standing.TheVariants.{Start, Content, Comment}
-use Rattle.slice_tokens.specs.Place.{Place, room, lines_from, first_of, rest_of, bare_line, present_of, following_of, present, following, later, is_cut, last_line}
+use Rattle.slice_tokens.specs.Place.{Place, room, lines_from, first_of, bare_line, present_of, following_of, present, following, later, is_cut, last_line}
 use Rattle.slice_tokens.specs.Calls.{SameLater}
 use Rattle.slice_tokens.specs.Held.{passed_over, is_word_byte, readable, blanks, word_len, Same, same_standing}
 use Rattle.slice_tokens.proofs.Texts.{Runs, Free, Free-from_Runs}

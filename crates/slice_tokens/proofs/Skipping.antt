@@ -1,17 +1,17 @@
 -- What a step to the next content line keeps.
 use Rattle.std.proofs.Common.{◌≡◌, ◌≢◌, ℕ, zero, suc, ◌+◌, ◌<◌, ◌≤◌, Bool, true, false, not, ◌&&◌, ◌||◌, ◌==◌, List, [], ◌∷◌, ◌++◌, length, take, drop, get_or, filter, if◌then◌else◌, refl, sym, ap, ◌∙◌, arith, append-nil, add_assoc}
-use Rattle.std.proofs.lemmas.Bool.{eqb-true, true≢false}
+use Rattle.std.proofs.lemmas.Bool.{eqb-true}
 use Rattle.std.proofs.lemmas.List.Sums.{prefix_len_stops}
 use Rattle.std.specs.List.{count_by}
 use Rattle.session_rules.specs.Lines.{Line, is_nil, is_blank, is_line_feed, words, line_of, numbered, has_content, counts, most_bytes}
 use Rattle.slice_tokens.specs.declared.window.Standing.{Standing}
 use Rattle.slice_tokens.specs.declared.window.Standing.TheVariants.{Start, Content, Comment}
-use Rattle.slice_tokens.specs.Place.{Place, room, lines_from, first_of, rest_of, in_comment, without_words, bare_line, present, following_of, following, later, is_cut, last_line}
+use Rattle.slice_tokens.specs.Place.{Place, lines_from, first_of, rest_of, in_comment, without_words, bare_line, present, following_of, later, is_cut, last_line}
 use Rattle.slice_tokens.specs.Calls.{but_comment, SameContent}
 use Rattle.slice_tokens.specs.Held.{same_standing, passed_over, past_line, is_word_byte, readable, blanks, EntersLine}
 use Rattle.slice_tokens.proofs.Texts.{Free, words_blanks, words_nil}
-use Rattle.slice_tokens.proofs.Rows.{rows, first_text, more_texts, rows_shape, rows_end, rows_blanks, content_at_word, counted, uncounted, following_front, following_end}
-use Rattle.slice_tokens.proofs.Places.{runs_prefix, visible, lines_are, present_is, following_is, later_is, last_is, cut_after, count_free, count_one, looked, looked_lines, looked_bounds, looked_cut, looked_last, looked_later, blanks_le, free_blanks, pass_bounds, left, seen_after, seen_before, seen_at, last_free}
+use Rattle.slice_tokens.proofs.Rows.{rows, first_text, more_texts, rows_shape, rows_end, rows_blanks, content_at_word, uncounted, following_front, following_end}
+use Rattle.slice_tokens.proofs.Places.{runs_prefix, visible, lines_are, present_is, following_is, later_is, last_is, cut_after, count_free, count_one, looked, looked_lines, looked_cut, looked_last, looked_later, free_blanks, pass_bounds, left, seen_after, seen_before, seen_at, last_free}
 
 -- the lines to come as those of what may be read
 later_rows : (p : Place) (t : List ℕ) (st : Standing) (c : Bool) (v : List ℕ) → p.standing ≡ st → is_cut p t ≡ c → visible p t ≡ v → later p t ≡ filter counts (following_of st (rows p.line c v))

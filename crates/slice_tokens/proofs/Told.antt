@@ -1,5 +1,5 @@
 -- What two places of one stream have in common, where its bytes are told.
-use Rattle.std.proofs.Common.{◌≡◌, ℕ, ◌+◌, ◌≤◌, Bool, true, false, List, [], ◌++◌, length, drop, if◌then◌else◌, Option, Some, None, IfSome, refl, sym, ap, ◌∙◌, subst}
+use Rattle.std.proofs.Common.{◌≡◌, ℕ, ◌≤◌, true, false, List, [], ◌++◌, drop, if◌then◌else◌, Option, Some, None, IfSome, refl, sym, ap, ◌∙◌, subst}
 use Rattle.std.specs.Io.KnownBytes.{Keeps}
 use Rattle.session_rules.specs.Lines.{is_nil, most_bytes}
 use Rattle.slice_tokens.specs.declared.window.Standing.{Standing}
@@ -7,7 +7,7 @@ use Rattle.slice_tokens.specs.declared.window.Standing.TheVariants.{Start, Conte
 use Rattle.slice_tokens.specs.Place.{Place, WhereTold, ahead, present, following, later, is_cut, last_line}
 use Rattle.slice_tokens.specs.Due.{due, due_end}
 use Rattle.slice_tokens.specs.Calls.{Moves, SameLater, begins_line_feed, stands_in_content, at_line_end}
-use Rattle.slice_tokens.specs.Held.{Stays, Same, passed_over, readable, blanks}
+use Rattle.slice_tokens.specs.Held.{Stays, Same, readable, blanks}
 use Rattle.slice_tokens.proofs.Places.{looked, looked_same, present_bare}
 
 -- ---- one call after the other

@@ -1,11 +1,11 @@
 -- What the calls of a window answer, and where they leave it.
-use Rattle.std.specs.Prelude.{◌≡◌, ℕ, ◌+◌, ◌<◌, ◌≤◌, ⊤, Bool, true, false, not, ◌&&◌, List, [], ◌∷◌, ◌++◌, length, take, Option, Ok, Err, if◌then◌else◌}
+use Rattle.std.specs.Prelude.{◌≡◌, ℕ, ◌+◌, ◌<◌, ◌≤◌, ⊤, Bool, true, false, List, [], ◌∷◌, length, take, Option, Ok, Err, if◌then◌else◌}
 use Rattle.std.specs.declared.result.Result.{Result}
 use Rattle.session_rules.specs.Lines.{Line, has_content, is_line_feed, is_nil, most_bytes}
 use Rattle.slice_tokens.specs.Place.{Place, WhereTold, room, bare_line, without_words, present, later, is_cut, last_line}
-use Rattle.slice_tokens.specs.Due.{Due, due_word, due_end, due_long, due_cut, known_words}
+use Rattle.slice_tokens.specs.Due.{Due, due_word, due_end, due_long, due_cut}
 use Rattle.slice_tokens.specs.declared.window.Standing.{Standing}
-use Rattle.slice_tokens.specs.declared.window.Standing.TheVariants.{Start, Content, Comment}
+use Rattle.slice_tokens.specs.declared.window.Standing.TheVariants.{Content}
 use Rattle.slice_tokens.specs.declared.token.Token.{Token}
 use Rattle.slice_tokens.specs.declared.token.Token.TheVariants.{Word, LineEnd}
 use Rattle.slice_tokens.specs.declared.token.TokenFault.{TokenFault}

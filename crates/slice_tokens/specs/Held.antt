@@ -1,9 +1,9 @@
 -- What the single steps of a window find in the bytes that it holds.
-use Rattle.std.specs.Prelude.{◌≡◌, ℕ, zero, suc, ◌+◌, ◌<◌, ◌≤◌, ⊤, Bool, true, false, not, ◌||◌, List, [], ◌∷◌, ◌++◌, length, take, drop, Ok, Err, MatchBool}
+use Rattle.std.specs.Prelude.{◌≡◌, ℕ, zero, suc, ◌+◌, ◌<◌, ◌≤◌, ⊤, Bool, true, false, not, ◌||◌, List, ◌∷◌, ◌++◌, length, take, drop, Ok, Err, MatchBool}
 use Rattle.std.specs.List.{prefix_len}
 use Rattle.std.specs.declared.result.Result.{Result}
 use Rattle.session_rules.specs.Lines.{is_blank, is_line_feed, has_content}
-use Rattle.slice_tokens.specs.Place.{Place, room, present, following, later, is_cut, last_line}
+use Rattle.slice_tokens.specs.Place.{Place, room, present, following, is_cut, last_line}
 use Rattle.slice_tokens.specs.Due.{due, due_word, due_end, due_long, due_cut}
 use Rattle.slice_tokens.specs.Calls.{Moves, SameLater, SameContent, without_first, at_line_end}
 use Rattle.slice_tokens.specs.declared.window.Standing.{Standing}

@@ -1,5 +1,5 @@
 -- Where a window stands in its stream, and what is to come there.
-use Rattle.std.specs.Prelude.{◌≡◌, ℕ, ◌+◌, ◌-◌, ◌≤◌, ⊤, Bool, true, false, nat_lt, count_by, List, [], ◌∷◌, ◌++◌, length, take, filter, Option, Some, None, if◌then◌else◌}
+use Rattle.std.specs.Prelude.{◌≡◌, ℕ, ◌+◌, ◌-◌, ◌≤◌, ⊤, Bool, false, nat_lt, count_by, List, [], ◌∷◌, ◌++◌, length, take, filter, Option, Some, None, if◌then◌else◌}
 use Rattle.std.specs.Option.{option_map}
 use Rattle.session_rules.specs.Lines.{Line, all_lines, counts, is_line_feed, most_bytes}
 use Rattle.slice_tokens.specs.declared.window.TheConstants.{SIZE}

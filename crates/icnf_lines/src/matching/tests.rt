@@ -1,9 +1,10 @@
-// What each pair of lines gives, each text in pieces of one byte.
+// What each pair of lines gives, each text in pieces of one byte and as a whole.
 
-ghost use Rattle.std.specs.Prelude.{◌≡◌, ◌≤◌, IsTrue, All};
+ghost use Rattle.std.specs.Prelude.{◌≡◌, ◌<◌, ◌≤◌, IsTrue, All};
 ghost use Rattle.lits.specs.Literal.{var};
 
 use crate::{Marks, Match, MatchFault, match_line, read_line};
+use line_reading::Spare;
 use lits::Lit;
 use outside::MemorySource;
 use session_rules::{Event, Rule};
@@ -12,11 +13,13 @@ use std::alloc::{AllocError, Global};
 use std::process::Abort;
 use std::test::Fail;
 
-// A source that gives these bytes one by one.
-fn source(alloc: Global, bytes: &[u8]) -> Result<MemorySource, AllocError> {
+// A source that gives these bytes in pieces of so many.
+fn source(alloc: Global, bytes: &[u8], most: usize) -> Result<MemorySource, AllocError>
+    requires { 0 < most }
+{
     let mut pieces = Vec::new(alloc);
-    for b in bytes {
-        pieces.push([*b].to_vec(alloc)?)?;
+    for piece in bytes.chunks(most) {
+        pieces.push(piece.to_vec(alloc)?)?;
     }
     Ok(MemorySource::new(pieces, Vec::new(alloc)))
 }
@@ -55,16 +58,20 @@ fn matched(
     proof: &str,
     interaction: &str,
     assumed: &[Lit],
-) -> Result<Option<Result<Match, MatchFault>>, AllocError> {
-    let mut events = source(alloc, proof.as_bytes())?;
+    most: usize,
+) -> Result<Option<Result<Match, MatchFault>>, AllocError>
+    requires { 0 < most }
+{
+    let mut spare = Spare::new(alloc);
+    let mut events = source(alloc, proof.as_bytes(), most)?;
     let mut events_window = Window::new(alloc)?;
-    let mut lines = source(alloc, interaction.as_bytes())?;
+    let mut lines = source(alloc, interaction.as_bytes(), most)?;
     let mut lines_window = Window::new(alloc)?;
     let mut marks = Marks::new(alloc);
     marks.reserve(9)?;
     let mut answer = None;
     for _ in 0..9 {
-        match read_line(alloc, &mut events_window, &mut events) {
+        match read_line(&mut spare, &mut events_window, &mut events) {
             Ok(Some(event)) => {
                 answer = held_against(&mut lines_window, &mut lines, &event, assumed, &mut marks);
             }
@@ -102,6 +109,16 @@ fn pairs_of_lines(rt: HostRuntime) -> Result<(), Fail> {
         "i 1 0",
         "i 1 0",
         "i 1 0\ni 1 2 0",
+        "i 2 1 2 0",
+        "i 2 1 0",
+        "q 2 -1 0",
+        "m 3 0",
+        "i 1 2 0",
+        "i 1 2 0",
+        "i 1 2 0",
+        "q 1 0",
+        "u 3 1 0",
+        "u 3 2 0",
     ];
     let interactions = [
         "q 0",
@@ -122,6 +139,16 @@ fn pairs_of_lines(rt: HostRuntime) -> Result<(), Fail> {
         "q 01 0",
         "i 8000000 0 1",
         "i 2 0\ni 2 1 0",
+        "i 2 1 2 0",
+        "i 2  1\t0 \r\n",
+        "q 2 -1 0\nq 1 0",
+        "m 3 0 0",
+        "i 1 2",
+        "i 1 20 0",
+        "i 1 2 3 0",
+        "q -1 0",
+        "u 3 1 0",
+        "u 3 2 0",
     ];
     let wanted = [
         Ok(Match::Differs(Rule::Kind)),
@@ -142,10 +169,22 @@ fn pairs_of_lines(rt: HostRuntime) -> Result<(), Fail> {
         Err(MatchFault::Syntax(Rule::Number)),
         Err(MatchFault::Syntax(Rule::Excess)),
         Ok(Match::Agrees),
+        Ok(Match::Agrees),
+        Ok(Match::Agrees),
+        Ok(Match::Agrees),
+        Err(MatchFault::Syntax(Rule::Excess)),
+        Err(MatchFault::Syntax(Rule::Unclosed)),
+        Ok(Match::Differs(Rule::Content)),
+        Ok(Match::Differs(Rule::Content)),
+        Ok(Match::Differs(Rule::Content)),
+        Ok(Match::Agrees),
+        Ok(Match::Differs(Rule::CoreClaim(lit(&rt, 2)))),
     ];
-    for i in 0..18usize {
-        let answer = matched(alloc, proofs[i], interactions[i], &assumed)?;
-        assert_eq!(rt; answer, Some(wanted[i]), "pair {i}");
+    for i in 0..28usize {
+        for most in [1, 1_000] {
+            let answer = matched(alloc, proofs[i], interactions[i], &assumed, most)?;
+            assert_eq!(rt; answer, Some(wanted[i]), "pair {i}, pieces of {most}");
+        }
     }
     Ok(())
 }

@@ -2,6 +2,7 @@
 ghost use Rattle.std.specs.Prelude.{◌<◌};
 
 use crate::{read_header, read_line, write_line};
+use line_reading::Spare;
 use outside::{MemorySink, MemorySource};
 use session_rules::{LineFault, Rule};
 use slice_tokens::Window;
@@ -27,9 +28,10 @@ fn read_again(
     if read_header(&mut window, &mut source, b"icnf").is_err() {
         return Ok((None, 0));
     }
+    let mut spare = Spare::new(alloc);
     let mut room = 1_000;
     for _ in 0..20 {
-        match read_line(alloc, &mut window, &mut source) {
+        match read_line(&mut spare, &mut window, &mut source) {
             Ok(Some(line)) => {
                 let _ = write_line(sink, &mut room, &line);
             }

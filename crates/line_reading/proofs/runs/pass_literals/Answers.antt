@@ -1,4 +1,4 @@
-use Rattle.std.proofs.Common.{◌≡◌, List, ℕ, Ok, refl, sym, subst, ap, ◌∙◌, length, arith}
+use Rattle.std.proofs.Common.{Ok, refl, sym, subst}
 use Rattle.session_rules.specs.Reading.{literal_list}
 use Rattle.slice_tokens.specs.Place.{ahead, WhereTold}
 use Rattle.slice_tokens.specs.Front.{coming}

@@ -1,4 +1,4 @@
-use Rattle.std.proofs.Common.{◌≡◌, true, sym, ◌∙◌, arith}
+use Rattle.std.proofs.Common.{sym, ◌∙◌, arith}
 use Rattle.std.proofs.lemmas.List.{take_rest}
 use Rattle.line_reading.proofs.Running.{spaced_literal}
 use Rattle.line_reading.proofs.runs.spaced_literal.Goals as goal

@@ -1,4 +1,4 @@
-use Rattle.std.proofs.Common.{◌≡◌, true, sym, ◌∙◌, arith}
+use Rattle.std.proofs.Common.{sym, ◌∙◌}
 use Rattle.std.proofs.lemmas.List.{take_rest}
 use Rattle.line_reading.proofs.Running.{spaced_zero, on_true}
 use Rattle.line_reading.proofs.runs.spaced_zero.Goals as goal

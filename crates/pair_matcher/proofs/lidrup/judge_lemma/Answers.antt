@@ -1,5 +1,4 @@
-use Rattle.std.proofs.Common.{◌≡◌, ap, ◌∙◌, refl, sym, subst, map}
-use Rattle.lits.specs.Literal.{neg}
+use Rattle.std.proofs.Common.{ap, ◌∙◌, refl, sym, subst}
 use Rattle.session_rules.specs.Logic.{hints_fail}
 use Rattle.hint_check.specs.Hints.{active_at, end_of}
 use Rattle.pair_matcher.specs.Inside.{IsInside}

@@ -1,4 +1,4 @@
-use Rattle.std.proofs.Common.{◌≡◌, ◌∷◌, ◌++◌, [], get_or, map, take, ap, ◌∙◌, sym, arith}
+use Rattle.std.proofs.Common.{◌≡◌, ◌∷◌, ◌++◌, [], get_or, map, take, ap, ◌∙◌, sym}
 use Rattle.std.proofs.lemmas.List.{get_or_default}
 use Rattle.lits.specs.Literal.{neg}
 use Rattle.pair_matcher.proofs.Insides.{negated-step, negated-all}
