@@ -1,16 +1,15 @@
 -- Trails that assume literals of a list.
-use Rattle.std.proofs.Common.{◌≡◌, ◌≢◌, ℕ, suc, zero, ◌+◌, ◌<◌, ◌≤◌, ◌⊎◌, List, [], ◌∷◌, ◌++◌, length, map, Option, Some, None, refl, sym, ap, ◌∙◌, subst, inl, inr, arith, true, false, Bool, nat_eq, ◌||◌, Contains, eqb-true, eq-eqb, append_assoc}
+use Rattle.std.proofs.Common.{◌≡◌, ℕ, suc, ◌⊎◌, List, [], ◌∷◌, ◌++◌, Option, Some, None, refl, sym, ap, ◌∙◌, subst, inl, inr, arith, true, false, nat_eq, Contains, append_assoc}
 use Rattle.std.specs.Prelude.{is_some, IfSome, IfNone}
 use Rattle.std.proofs.lemmas.List.{append-nil}
-use Rattle.std.proofs.lemmas.Option.{same_Some, none-some}
 use Rattle.std.proofs.lemmas.Bool.{cases_Bool, both_ways, or_cases, or_left, or_right}
-use Rattle.lits.specs.Literal.{var, neg}
+use Rattle.lits.specs.Literal.{neg}
 use Rattle.session_rules.specs.Logic.{has, Closes}
-use Rattle.lits.proofs.Members.{here, there, not_in_nil, here_or_there, has_at, has_from}
+use Rattle.lits.proofs.Members.{here, there, not_in_nil, here_or_there, has_from}
 use Rattle.propagation.specs.declared.Step.{Step}
 use Rattle.propagation.specs.Clauses.{active}
-use Rattle.propagation.specs.Engine.{EngineView, IsEngine, IsFree, literals, with_trail, with_step, Grows, level_after, is_assumed, value_in, up_to_level, IsFalseAt, IsPropagated, AssumesFrom}
-use Rattle.propagation.proofs.Closing.{closing_at_false, closing_at_opposite, no_closing-propagated, has-push_old, has-push_new}
+use Rattle.propagation.specs.Engine.{EngineView, literals, with_trail, with_step, Grows, level_after, is_assumed, value_in, up_to_level, AssumesFrom}
+use Rattle.propagation.proofs.Closing.{has-push_old, has-push_new}
 use Rattle.propagation.proofs.Levels.{up_to_level-append, level_after-up_to_level}
 use Rattle.rup_check.specs.Assuming.{Assumes}
 

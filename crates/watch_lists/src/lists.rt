@@ -107,10 +107,8 @@ fn cut(rows: &mut Vec<Row>, places: &mut Vec<u32>, l: Lit, i: usize)
     ensures places { places.new.items ≡ cut_places places.old.items (watches_at rows.old.items l) i }
 {
     let row = &mut rows[l.code() as usize];
-    row.cut(i);
-    let list = row.list();
-    if i < list.len() {
-        places[list[i].node()] = i as u32;
+    if let Some(last) = row.cut(i) {
+        places[last.node()] = i as u32;
     }
 }
 

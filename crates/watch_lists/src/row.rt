@@ -1,7 +1,8 @@
 //! The row of a literal: the list of the clauses that watch it, and a number of clauses for which the list has room. The rows
 //! of a clause's literals make room when the clause is added, so an entry that moves to another literal of its clause takes
 //! no memory.
-ghost use Rattle.std.specs.Prelude.{◌≡◌, ◌+◌, ◌-◌, ◌^◌, ◌<◌, ◌++◌, ◌∷◌, [], length, slice_set, OnOk, OnErr};
+ghost use Rattle.std.specs.Prelude.{◌≡◌, ◌+◌, ◌-◌, ◌^◌, ◌<◌, ◌++◌, ◌∷◌, [], length, nat_le, slice_set, if◌then◌else◌, None, Some, OnOk, OnErr};
+ghost use Rattle.watch_lists.specs.Watched.{entry_at};
 ghost use Rattle.watch_lists.specs.Lists.{no_row, with_watches, with_count, IsCut};
 
 use crate::watch::Watch;
@@ -92,14 +93,24 @@ impl Row {
         self.watches.push_reserved(watch);
     }
 
-    /// Takes out the entry at a place, to which the last one comes.
+    /// Takes out the entry at a place, to which the last one comes. Some is that one, where it stood at another place.
     #[inline(always)]
-    pub(crate) fn cut(&mut self, i: usize)
+    pub(crate) fn cut(&mut self, i: usize) -> Option<Watch>
         requires { i < length self.old.watches }
         ensures list { IsCut self.old.watches self.new.watches i }
         ensures count { self.new.count ≡ self.old.count }
+        ensures small { self.old.count < 2 ^ 32 }
+        ensures last { result ≡ (if nat_le (length self.old.watches) (i + 1) then None else Some (entry_at self.old.watches (length self.old.watches - 1))) }
     {
-        let _ = self.watches.swap_remove(i);
+        // that the count is below 2^32 is known where it is read
+        let _count = self.count;
+        let last = self.watches.pop()?;
+        if i < self.watches.len() {
+            self.watches[i] = last;
+            Some(last)
+        } else {
+            None
+        }
     }
 
     /// Puts another entry at a place.

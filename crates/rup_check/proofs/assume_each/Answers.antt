@@ -1,8 +1,8 @@
-use Rattle.std.proofs.Common.{◌≡◌, ℕ, ◌+◌, ◌<◌, ◌≤◌, length, get_or, true, false, Some, None, Contains, sym, subst, ap, ◌∙◌, arith, below_more}
+use Rattle.std.proofs.Common.{◌≡◌, ℕ, ◌+◌, ◌<◌, ◌≤◌, get_or, true, Some, None, Contains, sym, subst, ap, ◌∙◌, arith, below_more}
 use Rattle.std.proofs.lemmas.List.{get_or_default}
-use Rattle.lits.specs.Literal.{var, neg}
+use Rattle.lits.specs.Literal.{var}
 use Rattle.session_rules.specs.Logic.{has}
-use Rattle.propagation.specs.Engine.{literals, value_in}
+use Rattle.propagation.specs.Engine.{literals}
 use Rattle.propagation.proofs.Scan.{contains_at, index_of}
 use Rattle.rup_check.specs.Assuming.{Assumes}
 use Rattle.rup_check.proofs.Assuming.{Assumes-none, Assumes-step, value_true, value_false, has-step, has-step_new}

@@ -1,10 +1,8 @@
-use Rattle.std.proofs.Common.{◌≡◌, ℕ, List, ◌++◌, true, false, Some, None, Contains, sym, subst, ap, ◌∙◌, refl, arith, inl, inr}
+use Rattle.std.proofs.Common.{◌++◌, sym, subst, ◌∙◌, inl, inr}
 use Rattle.std.specs.Prelude.{is_some}
 use Rattle.std.proofs.lemmas.Bool.{cases_Bool}
-use Rattle.session_rules.specs.Logic.{has}
 use Rattle.lits.proofs.Members.{has_at, has_from}
-use Rattle.propagation.specs.declared.Step.{Step}
-use Rattle.propagation.specs.Engine.{EngineView, IsFalseAt, IsPropagated, literals, with_trail}
+use Rattle.propagation.specs.Engine.{IsFalseAt, IsPropagated}
 use Rattle.propagation.proofs.Closing.{closing_at_false, closing_at_opposite, no_closing-propagated}
 use Rattle.rup_check.proofs.Assuming.{AssumesBy, from_by, by_append, by_level, by_added, extended, has-grown, Grows-back, same_closes, same_closes_back, the_some, the_none, trail-of}
 use Rattle.rup_check.proofs.closes.Goals as goal

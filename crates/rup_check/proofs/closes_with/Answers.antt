@@ -1,8 +1,8 @@
-use Rattle.std.proofs.Common.{◌≡◌, ℕ, List, ◌++◌, ◌∷◌, [], true, false, Some, None, Contains, sym, subst, ap, ◌∙◌, refl, arith}
+use Rattle.std.proofs.Common.{◌≡◌, ◌++◌, true, None, sym, subst, ap, ◌∙◌}
 use Rattle.session_rules.specs.Logic.{has, hints_fail}
 use Rattle.lits.proofs.Members.{has_at, has_from}
 use Rattle.propagation.specs.Clauses.{active_at, slot_of}
-use Rattle.propagation.specs.Engine.{EngineView, IsFalseAt, IsPropagated, IsOnce, literals, with_trail}
+use Rattle.propagation.specs.Engine.{IsOnce, with_trail}
 use Rattle.propagation.proofs.Closing.{no_closing-propagated}
 use Rattle.propagation.proofs.Hints.{hints_at_false, hints_at_opposite, once_conflict, once_reasons, active_conflict, active_reasons}
 use Rattle.rup_check.proofs.Assuming.{AssumesBy, from_by, by_append, by_level, by_added, extended, has-grown, Grows-back, same_closes_back, trail-of}

@@ -1,4 +1,4 @@
-use Rattle.std.proofs.Common.{◌≡◌, ◌<◌, length, None, sym, subst, arith}
+use Rattle.std.proofs.Common.{◌<◌, length, None, sym, subst, arith}
 use Rattle.std.proofs.lemmas.Option.{none-some}
 use Rattle.propagation.specs.declared.Step.{Step}
 use Rattle.propagation.specs.Engine.{EngineView, IsStep}
