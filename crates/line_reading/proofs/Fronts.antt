@@ -40,7 +40,7 @@ front_len (b ∷ bs) (suc n) lt h e =
     let parts = and_parts _ _ h in
     ap (λ c. if c then (1 + prefix_len is_word_byte bs) else 0) (number_is_word b parts.0) ∙ ap (λ k. 1 + k) (front_len bs n (omega arith) parts.1 e) ∙ (let sum : 1 + n ≡ suc n = omega arith in sum)
 
-is_front : (bytes : List ℕ) (n : ℕ) → IsFront bytes n → IsWordFront bytes n
+pub is_front : (bytes : List ℕ) (n : ℕ) → IsFront bytes n → IsWordFront bytes n
 is_front bytes n h = record { some = h.some; short = h.short; within = h.within; word = front_len bytes n h.within h.word h.behind }
 
 above_space : (b : ℕ) → 32 < b → is_word_byte b ≡ true

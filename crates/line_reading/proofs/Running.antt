@@ -1,12 +1,15 @@
 -- Literals that stand one after another, and the parts of a line that they are.
-use Rattle.std.proofs.Common.{◌≡◌, ℕ, suc, ◌+◌, ◌-◌, ◌<◌, ◌≤◌, Bool, true, false, nat_eq, nat_lt, if◌then◌else◌, List, [], ◌∷◌, ◌++◌, length, get_or, take, drop, Option, Some, None, Ok, refl, sym, ap, ◌∙◌, subst, append_assoc, append-nil, length-drop, inl, inr, arith}
-use Rattle.std.proofs.lemmas.Bool.{cases_Bool}
-use Rattle.std.proofs.lemmas.List.{drop-drop, take_rest}
-use Rattle.std.proofs.Math.Seq.{take-suc}
+use Rattle.std.proofs.Common.{◌≡◌, ◌≢◌, ℕ, suc, ◌+◌, ◌-◌, ◌<◌, ◌≤◌, Bool, true, false, not, nat_eq, nat_lt, nat_le, if◌then◌else◌, List, [], ◌∷◌, ◌++◌, length, get_or, take, drop, Option, Some, None, Ok, refl, sym, ap, ◌∙◌, subst, append_assoc, append-nil, length-drop, length-take, eqb-true, eq-eqb, inl, inr, arith}
+use Rattle.std.proofs.lemmas.Bool.{and_parts, cases_Bool}
+use Rattle.std.proofs.lemmas.List.{drop-drop, take_rest, take_all, get_or-take}
+use Rattle.std.proofs.Math.Seq.{take-suc, drop-cons}
+use Rattle.std.proofs.Math.ListN.{drop_of_length-le}
 use Rattle.std.specs.Bool.{OnTrue}
 use Rattle.std.specs.declared.result.Result.{Result}
 use Rattle.lits.specs.declared.LitWord.TheVariants as literals
-use Rattle.lits.specs.Word.{literal_word, IsFront}
+use Rattle.lits.specs.Literal.{max_var}
+use Rattle.lits.specs.Word.{literal_word, literal_of, signed, magnitude, starts_with_minus, is_zero, IsFront}
+use Rattle.lits.specs.declared.LitWord.{LitWord}
 use Rattle.session_rules.specs.declared.Rule.{Rule}
 use Rattle.session_rules.specs.declared.Rule.TheVariants as rules
 use Rattle.session_rules.specs.Lines.{without_cut_word, most_bytes}
@@ -19,9 +22,9 @@ use Rattle.slice_tokens.specs.Front.{without_space, behind_space, coming, IsWord
 use Rattle.slice_tokens.proofs.LineEnd.{passed_none}
 use Rattle.slice_tokens.proofs.Front.{takes_told, coming_bounds, coming_passed, coming_space, passed_twice}
 use Rattle.line_reading.specs.Parts.{ReadsPart, word_part, word_or_fault}
-use Rattle.line_reading.specs.Kinds.{literal_says}
+use Rattle.line_reading.specs.Kinds.{literal_says, literal_or_rule}
 use Rattle.line_reading.specs.Runs.{begins_with_space, IsSpaced, IsRun, IsWholeRun}
-use Rattle.line_reading.proofs.Fronts.{literal_front, literal_zero}
+use Rattle.line_reading.proofs.Fronts.{is_front, literal_front, literal_zero}
 use Rattle.line_reading.proofs.Collecting.{literal_list_is, Collects, Collects-start, collects_more, collects_last, told_then, told_at_start}
 
 pub on_true : (b : Bool) (P Q : Type 0) → (P → Q) → OnTrue b P → OnTrue b Q
@@ -34,17 +37,74 @@ behind : (bytes : List ℕ) → begins_with_space bytes ≡ true → without_spa
 behind [] h = cc h
 behind (b ∷ bs) h = ap (λ c. if c then bs else []) h
 
+unspaced : (bytes : List ℕ) → begins_with_space bytes ≡ false → without_space bytes ≡ []
+unspaced [] h = refl
+unspaced (b ∷ bs) h = ap (λ c. if c then bs else []) h
+
 pub spaced_literal : (bytes : List ℕ) (n l : ℕ) → begins_with_space bytes ≡ true → IsFront (drop 1 bytes) n → literal_word (take n (drop 1 bytes)) ≡ literals.Value l → IsSpaced (Some l) bytes n
 spaced_literal bytes n l h front says =
-    let at = literal_front (drop 1 bytes) n l front says in
     let e = behind bytes h in
-    record { word = subst (λ r. IsWordFront r n) (sym e) at.0; says = ap (λ r. literal_says (take n r)) e ∙ at.1 }
+    record { front = subst (λ r. IsFront r n) (sym e) front; says = ap (λ r. literal_says (take n r)) e ∙ (literal_front (drop 1 bytes) n l front says).1 }
 
 pub spaced_zero : (bytes : List ℕ) → begins_with_space bytes ≡ true → IsFront (drop 1 bytes) 1 → literal_word (take 1 (drop 1 bytes)) ≡ literals.Zero → IsSpaced None bytes 1
 spaced_zero bytes h front says =
-    let at = literal_zero (drop 1 bytes) front says in
     let e = behind bytes h in
-    record { word = subst (λ r. IsWordFront r 1) (sym e) at.0; says = ap (λ r. literal_says (take 1 r)) e ∙ at.1 }
+    record { front = subst (λ r. IsFront r 1) (sym e) front; says = ap (λ r. literal_says (take 1 r)) e ∙ (literal_zero (drop 1 bytes) front says).1 }
+
+-- ---- And nowhere else
+
+pub no_space : (said : Option ℕ) (bytes : List ℕ) (n : ℕ) → begins_with_space bytes ≡ false → IsSpaced said bytes n → ⊥
+no_space said bytes n h s = let none : length (without_space bytes) ≡ 0 = ap length (unspaced bytes h) in absurd (omega (arith, s.front.within, none))
+
+said_literal : (w : List ℕ) (l : ℕ) → literal_says w ≡ Ok (Some l) → literal_word w ≡ literals.Value l
+unfolding literal_says
+said_literal w l h = by_word (literal_word w) h
+  where
+    by_word : (o : LitWord) → literal_or_rule o ≡ Ok (Some l) → o ≡ literals.Value l
+    by_word literals.Zero h = cc h
+    by_word (literals.Value k) h = let same : k ≡ l = cc h in ap literals.Value same
+    by_word literals.NotNumber h = cc h
+    by_word literals.OutOfRange h = cc h
+
+said_zero : (w : List ℕ) → literal_says w ≡ Ok None → literal_word w ≡ literals.Zero
+unfolding literal_says
+said_zero w h = by_word (literal_word w) h
+  where
+    by_word : (o : LitWord) → literal_or_rule o ≡ Ok None → o ≡ literals.Zero
+    by_word literals.Zero h = refl
+    by_word (literals.Value k) h = cc h
+    by_word literals.NotNumber h = cc h
+    by_word literals.OutOfRange h = cc h
+
+zero_word : (w : List ℕ) → literal_word w ≡ literals.Zero → is_zero w ≡ true
+unfolding literal_word
+zero_word w h = by_test (is_zero w) refl h
+  where
+    by_size : (b : Bool) (o : Option ℕ) → literal_of b o ≡ literals.Zero → ⊥
+    by_size b None h = cc h
+    by_size b (Some v) h = elim (cases_Bool (nat_le v max_var)) [
+      | inl q ↦ let f : literals.Value (signed b v) ≡ literals.Zero = rw q at h in cc f
+      | inr q ↦ let f : literals.OutOfRange ≡ literals.Zero = rw q at h in cc f
+    ]
+
+    by_test : (c : Bool) → is_zero w ≡ c → (if c then literals.Zero else literal_of (starts_with_minus w) (magnitude w)) ≡ literals.Zero → is_zero w ≡ true
+    by_test true e h = e
+    by_test false e h = absurd (by_size (starts_with_minus w) (magnitude w) h)
+
+pub no_literal : (bytes : List ℕ) → begins_with_space bytes ≡ true → ((n l : ℕ) → IsFront (drop 1 bytes) n → literal_word (take n (drop 1 bytes)) ≡ literals.Value l → ⊥) → (n l : ℕ) → IsSpaced (Some l) bytes n → ⊥
+no_literal bytes h none n l s =
+    let e = behind bytes h in
+    none n l (subst (λ r. IsFront r n) e s.front) (said_literal (take n (drop 1 bytes)) l (ap (λ r. literal_says (take n r)) (sym e) ∙ s.says))
+
+pub no_zero : (bytes : List ℕ) → begins_with_space bytes ≡ true → (IsFront (drop 1 bytes) 1 → get_or (drop 1 bytes) 0 0 ≢ 48) → (n : ℕ) → IsSpaced None bytes n → ⊥
+no_zero bytes h none n s =
+    let e = behind bytes h in
+    let b = drop 1 bytes in
+    let front : IsFront b n = subst (λ r. IsFront r n) e s.front in
+    let zero = and_parts _ _ (zero_word (take n b) (said_zero (take n b) (ap (λ r. literal_says (take n r)) (sym e) ∙ s.says))) in
+    let one : n ≡ 1 = omega (arith, eqb-true (length (take n b)) 1 zero.1, length-take n b, front.within) in
+    let first : get_or b 0 0 ≡ 48 = sym (get_or-take n b 0 0 front.some) ∙ eqb-true (get_or (take n b) 0 0) 48 zero.0 in
+    none (subst (IsFront b) one front) first
 
 shorter : (bytes : List ℕ) (n : ℕ) → n < length (without_space bytes) → n + 1 < length bytes
 shorter [] n h = absurd (omega (arith, h))
@@ -56,7 +116,7 @@ shorter (b ∷ bs) n h = by_test (nat_eq b 32) h
 
 -- a word and its space are fewer than the bytes
 pub spaced_within : (said : Option ℕ) (bytes : List ℕ) (n : ℕ) → IsSpaced said bytes n → n + 1 < length bytes
-spaced_within said bytes n h = shorter bytes n h.word.within
+spaced_within said bytes n h = shorter bytes n h.front.within
 
 -- ---- One literal more
 
@@ -90,22 +150,83 @@ pushing-more bytes old now next at m l p h e =
       within = omega (arith, p.within, spaced_within (Some l) (drop at bytes) m here, length-drop at bytes);
     }
 
--- what the loop over given literals keeps: the first of them are a run
-pub record Matching (bytes ls : List ℕ) (at : ℕ) : Type 0 where
-  pub run : IsRun ls bytes at
-  pub within : at ≤ length bytes
+-- ---- Given literals
 
-pub matching-more : (bytes ls : List ℕ) (i at m l x : ℕ) → i < length ls → get_or ls i x ≡ l → Matching bytes (take i ls) at → IsSpaced (Some l) (take (length bytes - at) (drop at bytes)) m → Matching bytes (take (i + 1) ls) (at + (m + 1))
+-- two numbers that a test of their difference says to be the same, and two that it says to differ
+pub same_as : (a b : ℕ) (r : Bool) → r ≡ not (nat_eq a b) → r ≡ false → a ≡ b
+same_as a b r e f = elim (cases_Bool (nat_eq a b)) [
+  | inl q ↦ eqb-true a b q
+  | inr q ↦ let g : r ≡ true = e ∙ ap not q in cc (f, g)
+]
+
+pub other_than : (a b : ℕ) (r : Bool) → r ≡ not (nat_eq a b) → r ≡ true → a ≡ b → ⊥
+other_than a b r e f same = let g : r ≡ false = e ∙ ap not (eq-eqb a b same) in cc (f, g)
+
+-- the literals and the 0 at their list's end stand in front of some bytes
+pub record IsRest (ls bytes : List ℕ) : Type 0 where
+  pub count : ℕ
+  pub run : IsRun ls bytes count
+  pub zero : IsSpaced None (drop count bytes) 1
+
+-- one word alone stands in front
+spaced_unique : (bytes : List ℕ) (n m k l : ℕ) → IsSpaced (Some k) bytes n → IsSpaced (Some l) bytes m → (n ≡ m) × (k ≡ l)
+spaced_unique bytes n m k l h g =
+    let same : n ≡ m = sym (is_front (without_space bytes) n h.front).word ∙ (is_front (without_space bytes) m g.front).word in
+    let both : (let o : Result (Option ℕ) Rule = Ok (Some k) in o) ≡ Ok (Some l) = sym h.says ∙ ap (λ z. literal_says (take z (without_space bytes))) same ∙ g.says in
+    (same, cc both)
+
+rest_first : (y : ℕ) (ys bytes : List ℕ) → IsRest (y ∷ ys) bytes → (m : ℕ) × IsSpaced (Some y) bytes m × IsRest ys (drop (m + 1) bytes)
+rest_first y ys bytes r =
+    let u = r.run in
+    (u.0, u.2, record { count = u.1; run = u.3; zero = subst (λ b. IsSpaced None b 1) (ap (λ k. drop k bytes) u.4 ∙ sym (drop-drop u.1 (u.0 + 1) bytes)) r.zero })
+
+module _ (bytes ls : List ℕ) (i x : ℕ) (lt : i < length ls) where
+  next_is : drop i ls ≡ get_or ls i x ∷ drop (i + 1) ls
+  next_is = drop-cons ls i x lt ∙ ap (λ k. get_or ls i x ∷ drop k ls) (let one : suc i ≡ i + 1 = omega arith in one)
+
+  pub rest_none : (at : ℕ) → ((n l : ℕ) → IsSpaced (Some l) (drop at bytes) n → ⊥) → IsRest (drop i ls) (drop at bytes) → ⊥
+  rest_none at none r = let u = rest_first (get_or ls i x) (drop (i + 1) ls) (drop at bytes) (subst (λ k. IsRest k (drop at bytes)) next_is r) in none u.0 (get_or ls i x) u.1
+
+  pub rest_found : (at m l : ℕ) → IsSpaced (Some l) (drop at bytes) m → IsRest (drop i ls) (drop at bytes) → (l ≡ get_or ls i x) × IsRest (drop (i + 1) ls) (drop (at + (m + 1)) bytes)
+  rest_found at m l h r =
+      let u = rest_first (get_or ls i x) (drop (i + 1) ls) (drop at bytes) (subst (λ k. IsRest k (drop at bytes)) next_is r) in
+      let one = spaced_unique (drop at bytes) m u.0 l (get_or ls i x) h u.1 in
+      let here : drop (u.0 + 1) (drop at bytes) ≡ drop (at + (m + 1)) bytes = ap (λ k. drop (k + 1) (drop at bytes)) (sym one.0) ∙ drop-drop (m + 1) at bytes in
+      (one.1, subst (IsRest (drop (i + 1) ls)) here u.2)
+
+-- what the loop over given literals keeps: the first i of them are a run, and the others stand behind it, if all stand there
+pub record Matching (bytes ls : List ℕ) (i at : ℕ) : Type 0 where
+  pub run : IsRun (take i ls) bytes at
+  pub within : at ≤ length bytes
+  pub only : (n : ℕ) → IsWholeRun ls bytes n → IsRest (drop i ls) (drop at bytes)
+
+pub matching-start : (bytes ls : List ℕ) → Matching bytes ls 0 0
+matching-start bytes ls = record { run = refl; within = omega arith; only = λ n h. record { count = h.count; run = h.run; zero = h.zero } }
+
+pub matching-more : (bytes ls : List ℕ) (i at m l x : ℕ) → i < length ls → get_or ls i x ≡ l → Matching bytes ls i at → IsSpaced (Some l) (take (length bytes - at) (drop at bytes)) m → Matching bytes ls (i + 1) (at + (m + 1))
 matching-more bytes ls i at m l x lt e p h =
     let here = rest_at bytes at (Some l) m h in
     let more : take (i + 1) ls ≡ take i ls ++ l ∷ [] = ap (λ k. take k ls) (let one : i + 1 ≡ suc i = omega arith in one) ∙ take-suc ls i x lt ∙ ap (λ z. take i ls ++ z ∷ []) e in
     record {
       run = subst (λ k. IsRun k bytes (at + (m + 1))) (sym more) (run_push (take i ls) bytes at m l p.run here);
       within = omega (arith, p.within, spaced_within (Some l) (drop at bytes) m here, length-drop at bytes);
+      only = λ n w. (rest_found bytes ls i x lt at m l here (p.only n w)).1;
     }
 
-pub matched : (bytes ls : List ℕ) (at : ℕ) → Matching bytes ls at → IsSpaced None (take (length bytes - at) (drop at bytes)) 1 → IsWholeRun ls bytes (at + 2)
-matched bytes ls at p h = record { count = at; run = p.run; zero = rest_at bytes at None 1 h; all = refl }
+pub matched : (bytes ls : List ℕ) (i at : ℕ) → length ls ≤ i → Matching bytes ls i at → IsSpaced None (take (length bytes - at) (drop at bytes)) 1 → IsWholeRun ls bytes (at + 2)
+matched bytes ls i at all p h = record { count = at; run = subst (λ k. IsRun k bytes at) (take_all i ls all) p.run; zero = rest_at bytes at None 1 h; all = refl }
+
+-- where another word stands, or none, not all of them stand there
+pub matching-none : (bytes ls : List ℕ) (i at : ℕ) → i < length ls → Matching bytes ls i at → ((n l : ℕ) → IsSpaced (Some l) (take (length bytes - at) (drop at bytes)) n → ⊥) → (n : ℕ) → IsWholeRun ls bytes n → ⊥
+matching-none bytes ls i at lt p none n w = rest_none bytes ls i 0 lt at (subst (λ b. (n l : ℕ) → IsSpaced (Some l) b n → ⊥) (take_rest bytes at) none) (p.only n w)
+
+pub matching-other : (bytes ls : List ℕ) (i at m l x : ℕ) → i < length ls → (l ≡ get_or ls i x → ⊥) → Matching bytes ls i at → IsSpaced (Some l) (take (length bytes - at) (drop at bytes)) m → (n : ℕ) → IsWholeRun ls bytes n → ⊥
+matching-other bytes ls i at m l x lt other p h n w = other (rest_found bytes ls i x lt at m l (rest_at bytes at (Some l) m h) (p.only n w)).0
+
+pub matching-open : (bytes ls : List ℕ) (i at : ℕ) → length ls ≤ i → Matching bytes ls i at → ((n : ℕ) → IsSpaced None (take (length bytes - at) (drop at bytes)) n → ⊥) → (n : ℕ) → IsWholeRun ls bytes n → ⊥
+matching-open bytes ls i at all p none n w =
+    let r = subst (λ k. IsRest k (drop at bytes)) (drop_of_length-le ls all) (p.only n w) in
+    none 1 (subst (λ b. IsSpaced None b 1) (ap (λ k. drop k (drop at bytes)) r.run ∙ sym (take_rest bytes at)) r.zero)
 
 -- ---- What is read
 
@@ -146,7 +267,7 @@ spaced_read said p n a bound h =
     let q = passed_over (n + 1) p in
     let space = coming_space p in
     let says : literal_says (take n (behind_space p)) ≡ Ok said = ap (λ r. literal_says (take n r)) space ∙ h.says in
-    told_then _ _ _ _ _ _ (told_at_start (ahead p a) (λ t u. t ≡ u) (λ t. refl)) (takes_told p n a bound (subst (λ r. IsWordFront r n) (sym space) h.word))
+    told_then _ _ _ _ _ _ (told_at_start (ahead p a) (λ t u. t ≡ u) (λ t. refl)) (takes_told p n a bound (subst (λ r. IsWordFront r n) (sym space) (is_front _ n h.front)))
     (λ t u v e w. subst (λ z. ReadsPart (word_part literal_says rules.Unclosed rules.Number) (Ok said) p z q v) (sym e) (word_read (take n (behind_space p)) said p q u v says w))
 
 -- a run of literals is passed over

@@ -1,11 +1,13 @@
 -- Literals that stand one after another at the front of some bytes, each behind one space.
 use Rattle.std.specs.Prelude.{◌≡◌, ℕ, ◌+◌, Bool, false, nat_eq, List, [], ◌∷◌, take, drop, Option, Some, None, Ok}
-use Rattle.slice_tokens.specs.Front.{without_space, IsWordFront}
+use Rattle.lits.specs.Word.{IsFront}
+use Rattle.slice_tokens.specs.Front.{without_space}
 use Rattle.line_reading.specs.Kinds.{literal_says}
 
--- behind a space stands a word of n bytes that says this: a literal, or none, where the 0 at a list's end stands
+-- behind a space stands a word of n bytes that says this: a literal, or none, where the 0 at a list's end stands; and behind the
+-- word a space or a line's end
 pub record IsSpaced (said : Option ℕ) (bytes : List ℕ) (n : ℕ) : Type 0 where
-  pub word : IsWordFront (without_space bytes) n
+  pub front : IsFront (without_space bytes) n
   pub says : literal_says (take n (without_space bytes)) ≡ Ok said
 
 -- the first n of some bytes are the words of these literals, each behind a space

@@ -1,8 +1,9 @@
 // Literals that stand one after another, each behind one space, so that one look at the bytes that are held tells them all.
-ghost use Rattle.std.specs.Prelude.{◌≡◌, ℕ, ◌≤◌, ◌++◌, List, Option, false, Ok, Some, None, length, IfOk, IfSome, MatchBool};
+ghost use Rattle.std.specs.Prelude.{◌≡◌, ℕ, ◌≤◌, ◌++◌, List, Option, false, Ok, Some, None, length, IfOk, IfSome, IfNone, MatchBool};
 ghost use Rattle.std.specs.Bool.{OnTrue};
 ghost use Rattle.session_rules.specs.Reading.{literal_list};
 ghost use Rattle.slice_tokens.specs.Place.{ahead, WhereTold};
+ghost use Rattle.slice_tokens.specs.Front.{coming};
 ghost use Rattle.line_reading.specs.Parts.{ReadsPart, Stays};
 ghost use Rattle.line_reading.specs.Runs.{begins_with_space, IsSpaced, IsRun, IsWholeRun};
 
@@ -18,12 +19,11 @@ fn begins_with_space(bytes: &[u8]) -> bool
     !bytes.is_empty() && bytes[0] == b' '
 }
 
-// The literal whose word stands behind a space in front of some bytes, and how many bytes the word has. None where a look
-// doesn't tell it.
+// The literal whose word stands behind a space in front of some bytes, and how many bytes the word has.
 #[inline(always)]
-#[tactic(auto, using(crate::proofs::Running::spaced_literal))]
 fn spaced_literal(bytes: &[u8]) -> Option<(usize, Lit)>
-    ensures { IfSome result (λ r. IsSpaced (Some r.1) bytes.now r.0) }
+    ensures some { IfSome result (λ r. IsSpaced (Some r.1) bytes.now r.0) }
+    ensures none { IfNone result ((n l : ℕ) → IsSpaced (Some l) bytes.now n → ⊥) }
 {
     if !begins_with_space(bytes) {
         return None;
@@ -36,11 +36,14 @@ fn spaced_literal(bytes: &[u8]) -> Option<(usize, Lit)>
 
 // Whether the 0 at a list's end stands behind a space in front of some bytes.
 #[inline(always)]
-#[tactic(auto, using(crate::proofs::Running::spaced_zero))]
 fn spaced_zero(bytes: &[u8]) -> bool
-    ensures { OnTrue result (IsSpaced None bytes.now 1) }
+    ensures yes { OnTrue result (IsSpaced None bytes.now 1) }
+    ensures no { result ≡ false → (n : ℕ) → IsSpaced None bytes.now n → ⊥ }
 {
-    begins_with_space(bytes) && front_zero(&bytes[1..])
+    if !begins_with_space(bytes) {
+        return false;
+    }
+    front_zero(&bytes[1..])
 }
 
 /// Puts the literals in front of some bytes, each behind one space, at the end of a list. It tells how many bytes they are,
@@ -70,14 +73,18 @@ pub(crate) fn push_run(bytes: &[u8], lits: &mut Lits) -> Result<(usize, bool), A
 // How many bytes these literals and the 0 at their list's end are, where they stand in front of some bytes, each behind one
 // space.
 fn whole_run(bytes: &[u8], lits: &[Lit]) -> Option<usize>
-    ensures { IfSome result (λ n. IsWholeRun lits.now bytes.now n) }
+    ensures some { IfSome result (λ n. IsWholeRun lits.now bytes.now n) }
+    ensures none { IfNone result ((n : ℕ) → IsWholeRun lits.now bytes.now n → ⊥) }
 {
     let mut at = 0;
     for l in lits {
-        match spaced_literal(&bytes[at..]) {
-            Some((count, found)) if found == *l => at += count + 1,
-            _ => return None,
+        let Some((count, found)) = spaced_literal(&bytes[at..]) else {
+            return None;
+        };
+        if found != *l {
+            return None;
         }
+        at += count + 1;
     }
     if spaced_zero(&bytes[at..]) {
         Some(at + 2)
@@ -86,13 +93,14 @@ fn whole_run(bytes: &[u8], lits: &[Lit]) -> Option<usize>
     }
 }
 
-/// Reads these literals and the 0 at their list's end, where a look at the bytes that are held tells that they come next, each
-/// behind one space. Where it answers false nothing is read.
+/// Reads these literals and the 0 at their list's end, where they come next, each behind one space and with a space or a line's
+/// end behind it, within the bytes that are held. Where it answers false they don't come so, and nothing is read.
 pub fn pass_literals(window: &mut Window, lits: &[Lit]) -> bool
     ensures stays { Stays window.old window.new }
     ensures yes { OnTrue result ((left : Option (List ℕ)) → WhereTold (ahead window.old left) (ahead window.new left)
         (λ bytes rest. ReadsPart literal_list (Ok lits.now) window.old bytes window.new rest)) }
-    ensures no { result ≡ false → window.new ≡ window.old }
+    ensures no { result ≡ false → (n : ℕ) → IsWholeRun lits.now (coming window.old) n → ⊥ }
+    ensures kept { result ≡ false → window.new ≡ window.old }
 {
     match whole_run(window.coming(), lits) {
         Some(count) => {
