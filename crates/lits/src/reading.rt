@@ -109,11 +109,18 @@ fn front_numeral(bytes: &[u8]) -> Option<(usize, u64)>
         return None;
     }
     let (count, value) = front_digits(bytes);
-    if ends_at(bytes, count) {
-        Some((count, value))
-    } else {
-        None
+    if count >= bytes.len() {
+        return None;
     }
+    // nearly every number stands before a space
+    let behind = bytes[count];
+    if behind == b' ' {
+        return Some((count, value));
+    }
+    if behind == b'\n' {
+        return Some((count, value));
+    }
+    None
 }
 
 /// The first digits of some bytes, up to `MOST_DIGITS`: how many they are, and the number that they write.
