@@ -1,4 +1,5 @@
-// How the literals of a line are held against those of an event as they come, by marks in a table.
+// How the literals of a line are held against those of an event: by one look where they are the same in the same order, and
+// else as they come, by marks in a table.
 
 ghost use Rattle.std.specs.Prelude.{◌≡◌, ◌≤◌, ℕ, List, [], length, if◌then◌else◌, All, IsErrOf, Option, Ok, false};
 ghost use Rattle.std.specs.Bool.{OnTrue};

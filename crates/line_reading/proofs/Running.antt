@@ -1,7 +1,7 @@
 -- Literals that stand one after another, and the parts of a line that they are.
 use Rattle.std.proofs.Common.{◌≡◌, ◌≢◌, ℕ, suc, ◌+◌, ◌-◌, ◌<◌, ◌≤◌, Bool, true, false, not, nat_eq, nat_lt, nat_le, if◌then◌else◌, List, [], ◌∷◌, ◌++◌, length, get_or, take, drop, Option, Some, None, Ok, refl, sym, ap, ◌∙◌, subst, append_assoc, append-nil, length-drop, length-take, eqb-true, eq-eqb, inl, inr, arith}
 use Rattle.std.proofs.lemmas.Bool.{and_parts, cases_Bool}
-use Rattle.std.proofs.lemmas.List.{drop-drop, take_rest, take_all, get_or-take}
+use Rattle.std.proofs.lemmas.List.{drop-drop, take_rest, get_or-take}
 use Rattle.std.proofs.Math.Seq.{take-suc, drop-cons}
 use Rattle.std.proofs.Math.ListN.{drop_of_length-le}
 use Rattle.std.specs.Bool.{OnTrue}
@@ -37,10 +37,6 @@ behind : (bytes : List ℕ) → begins_with_space bytes ≡ true → without_spa
 behind [] h = cc h
 behind (b ∷ bs) h = ap (λ c. if c then bs else []) h
 
-unspaced : (bytes : List ℕ) → begins_with_space bytes ≡ false → without_space bytes ≡ []
-unspaced [] h = refl
-unspaced (b ∷ bs) h = ap (λ c. if c then bs else []) h
-
 pub spaced_literal : (bytes : List ℕ) (n l : ℕ) → begins_with_space bytes ≡ true → IsFront (drop 1 bytes) n → literal_word (take n (drop 1 bytes)) ≡ literals.Value l → IsSpaced (Some l) bytes n
 spaced_literal bytes n l h front says =
     let e = behind bytes h in
@@ -52,9 +48,6 @@ spaced_zero bytes h front says =
     record { front = subst (λ r. IsFront r 1) (sym e) front; says = ap (λ r. literal_says (take 1 r)) e ∙ (literal_zero (drop 1 bytes) front says).1 }
 
 -- ---- And nowhere else
-
-pub no_space : (said : Option ℕ) (bytes : List ℕ) (n : ℕ) → begins_with_space bytes ≡ false → IsSpaced said bytes n → ⊥
-no_space said bytes n h s = let none : length (without_space bytes) ≡ 0 = ap length (unspaced bytes h) in absurd (omega (arith, s.front.within, none))
 
 said_literal : (w : List ℕ) (l : ℕ) → literal_says w ≡ Ok (Some l) → literal_word w ≡ literals.Value l
 unfolding literal_says
@@ -133,9 +126,6 @@ pub record Pushing (bytes old now : List ℕ) (at : ℕ) : Type 0 where
   pub lits : now ≡ old ++ ls
   pub within : at ≤ length bytes
 
-pub pushing-start : (bytes old : List ℕ) → Pushing bytes old old 0
-pushing-start bytes old = record { ls = []; run = refl; lits = sym (append-nil old); within = omega arith }
-
 -- the bytes from a place on, as a slice gives them
 rest_at : (bytes : List ℕ) (at : ℕ) (said : Option ℕ) (m : ℕ) → IsSpaced said (take (length bytes - at) (drop at bytes)) m → IsSpaced said (drop at bytes) m
 rest_at bytes at said m h = subst (λ b. IsSpaced said b m) (take_rest bytes at) h
@@ -200,9 +190,6 @@ pub record Matching (bytes ls : List ℕ) (i at : ℕ) : Type 0 where
   pub within : at ≤ length bytes
   pub only : (n : ℕ) → IsWholeRun ls bytes n → IsRest (drop i ls) (drop at bytes)
 
-pub matching-start : (bytes ls : List ℕ) → Matching bytes ls 0 0
-matching-start bytes ls = record { run = refl; within = omega arith; only = λ n h. record { count = h.count; run = h.run; zero = h.zero } }
-
 pub matching-more : (bytes ls : List ℕ) (i at m l x : ℕ) → i < length ls → get_or ls i x ≡ l → Matching bytes ls i at → IsSpaced (Some l) (take (length bytes - at) (drop at bytes)) m → Matching bytes ls (i + 1) (at + (m + 1))
 matching-more bytes ls i at m l x lt e p h =
     let here = rest_at bytes at (Some l) m h in
@@ -212,9 +199,6 @@ matching-more bytes ls i at m l x lt e p h =
       within = omega (arith, p.within, spaced_within (Some l) (drop at bytes) m here, length-drop at bytes);
       only = λ n w. (rest_found bytes ls i x lt at m l here (p.only n w)).1;
     }
-
-pub matched : (bytes ls : List ℕ) (i at : ℕ) → length ls ≤ i → Matching bytes ls i at → IsSpaced None (take (length bytes - at) (drop at bytes)) 1 → IsWholeRun ls bytes (at + 2)
-matched bytes ls i at all p h = record { count = at; run = subst (λ k. IsRun k bytes at) (take_all i ls all) p.run; zero = rest_at bytes at None 1 h; all = refl }
 
 -- where another word stands, or none, not all of them stand there
 pub matching-none : (bytes ls : List ℕ) (i at : ℕ) → i < length ls → Matching bytes ls i at → ((n l : ℕ) → IsSpaced (Some l) (take (length bytes - at) (drop at bytes)) n → ⊥) → (n : ℕ) → IsWholeRun ls bytes n → ⊥
