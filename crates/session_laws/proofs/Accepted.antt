@@ -23,6 +23,9 @@ use Rattle.session_rules.specs.History.{phase, fits_phase, assumed, query_of, or
 use Rattle.session_rules.specs.Own.{event_of, events_of, own_faults, active_clauses, id_event_of, id_events_of, own_id_faults, hint_faults}
 use Rattle.session_rules.specs.Pair.{ProofForm, without_ids, with_ids, pair_faults, Refusal, refusal, refusals, partner_rules, partner_faults, is_idle, surplus, unfinished, one_refusal, step_partners, step_matches, line_faults, partners_of, with_step, faults_from, pair_refusals, is_query, verdict_of, verdict_by, verdict, Certified, events_in}
 use Rattle.session_rules.proofs.Closing.{Closes-from_closes, Contradicts-from_Closes}
+use Rattle.session_rules.specs.declared.Side.{Side}
+use Rattle.session_rules.specs.Verdicts.{steps_in, events_among}
+use Rattle.session_laws.specs.Refusals.{IsWhole}
 use Rattle.session_laws.proofs.Justified.{Justified, justified-push, broken_unless_kept, active_satisfied}
 use Rattle.session_laws.proofs.IdsJustified.{IdsJustified, ids-justified-push, none_broken, first_nil, hints_contradict}
 use Rattle.session_laws.proofs.Certify.{AreSound, SoundContent, Agree, certified}
@@ -53,10 +56,13 @@ module _ {S : Type 0} (form : ProofForm S) (Holds : List S → Type 0)
     (push : (ps : List S) (p : S) → form.faults ps p ≡ [] → Holds ps → Holds (ps ++ p ∷ []))
     (sound : (ps : List S) (p : S) (e : Event) → form.event p ≡ Some e → form.faults ps p ≡ [] → Holds ps
     → (fits_phase e (phase (filter_map form.event ps)) ≡ true) × SoundContent (filter_map form.event ps) e) where
-  -- what lines without fault say, behind steps
+  -- the events of the proof's lines agree with the interaction's and are sound
+  abbrev EventsAgree : List Event → List Line → List Line → Type 0
+  EventsAgree es proof_lines ls = Agree es (filter_map form.event (values form.read proof_lines)) (values icnf_line ls) × AreSound es (filter_map form.event (values form.read proof_lines))
+
+  -- what lines without fault say, behind steps: so their events do, and each line of the interaction says an event
   Agrees : List S → List Line → List Line → Type 0
-  Agrees ps proof_lines ls = Agree (filter_map form.event ps) (filter_map form.event (values form.read proof_lines)) (values icnf_line ls)
-      × AreSound (filter_map form.event ps) (filter_map form.event (values form.read proof_lines))
+  Agrees ps proof_lines ls = EventsAgree (filter_map form.event ps) proof_lines ls × (length (values icnf_line ls) ≡ length ls)
 
   events-none : (ps : List S) (p : S) → form.event p ≡ None → filter_map form.event (ps ++ p ∷ []) ≡ filter_map form.event ps
   events-none ps p e = rw (filter_map-append, e, append-nil) refl
@@ -67,14 +73,14 @@ module _ {S : Type 0} (form : ProofForm S) (Holds : List S → Type 0)
   at_end : (ps : List S) (end : ℕ) (ls : List Line) → unfinished (filter_map form.event ps) end ++ surplus ls ≡ [] → Agrees ps [] ls
   unfolding Agrees values_of
   at_end ps end [] h = let none = first_nil (unfinished (filter_map form.event ps) end) [] h in
-      (tt, idle_is _ (broken_unless_kept _ rules.Unfinished (map_nil (refusal Proof end) _ none.0)))
+      ((tt, idle_is _ (broken_unless_kept _ rules.Unfinished (map_nil (refusal Proof end) _ none.0))), refl)
   at_end ps end (line ∷ more) h = let none = first_nil (unfinished (filter_map form.event ps) end) _ h in cc none.1
 
   -- at a step that is no event
   at_step : (ps : List S) (p : S) (line : Line) (more ls : List Line) → value_of form.read line ≡ Ok p → form.event p ≡ None → Agrees (ps ++ p ∷ []) more ls → Agrees ps (line ∷ more) ls
   unfolding Agrees
   at_step ps p line more ls v e h = rw (values-ok form.read line more p v, e)
-      (subst (λ es. Agree es (filter_map form.event (values form.read more)) (values icnf_line ls) × AreSound es (filter_map form.event (values form.read more))) (events-none ps p e) h)
+      (subst (λ es. EventsAgree es more ls) (events-none ps p e) h.0, h.1)
 
   -- at an event and its partner
   at_event : (ps : List S) (p : S) (line : Line) (more : List Line) (partner : Line) (ls : List Line) (e f : Event) → value_of form.read line ≡ Ok p → form.event p ≡ Some e
@@ -83,8 +89,8 @@ module _ {S : Type 0} (form : ProofForm S) (Holds : List S → Type 0)
       → Agrees (ps ++ p ∷ []) more ls → Agrees ps (line ∷ more) (partner ∷ ls)
   unfolding Agrees
   at_event ps p line more partner ls e f v is w pair own h =
-      let rest = subst (λ es. Agree es (filter_map form.event (values form.read more)) (values icnf_line ls) × AreSound es (filter_map form.event (values form.read more))) (events-some ps p e is) h in
-      rw (values-ok form.read line more p v, values-ok icnf_line partner ls f w, is) ((pair, rest.0), (own.0, own.1, rest.1))
+      let rest = subst (λ es. EventsAgree es more ls) (events-some ps p e is) h.0 in
+      rw (values-ok form.read line more p v, values-ok icnf_line partner ls f w, is) (((pair, rest.0), (own.0, own.1, rest.1)), ap suc h.1)
 
   -- a step's event, where it has one, and its partner
   by_event : (ps : List S) (p : S) (line : Line) (more ls : List Line) (number : ℕ) (o : Option Event) → form.event p ≡ o → value_of form.read line ≡ Ok p → form.faults ps p ≡ [] → Holds ps
@@ -120,8 +126,7 @@ module _ {S : Type 0} (form : ProofForm S) (Holds : List S → Type 0)
 
   -- an accepted pair's events are sound and agree
   accepted_agrees : (a b : List ℕ) (n : ℕ) → Holds [] → verdict_by form a b ≡ Accepted n
-      → Agree [] (filter_map form.event (values form.read (drop 1 (lines b)))) (values icnf_line (drop 1 (lines a)))
-      × AreSound [] (filter_map form.event (values form.read (drop 1 (lines b))))
+      → EventsAgree [] (drop 1 (lines b)) (drop 1 (lines a)) × (length (values icnf_line (drop 1 (lines a))) ≡ length (drop 1 (lines a)))
   unfolding verdict_by pair_refusals Agrees
   accepted_agrees a b n start e =
       let none = accepted_none _ n _ e in
@@ -130,7 +135,30 @@ module _ {S : Type 0} (form : ProofForm S) (Holds : List S → Type 0)
 
   -- an accepted interaction is certified
   accepted_certified : (a b : List ℕ) (n : ℕ) → Holds [] → verdict_by form a b ≡ Accepted n → Certified (values icnf_line (drop 1 (lines a)))
-  accepted_certified a b n start e = let r = accepted_agrees a b n start e in certified _ _ r.0 r.1
+  accepted_certified a b n start e = let r = accepted_agrees a b n start e in certified _ _ r.0.0 r.0.1
+
+  -- its lines say events, as many as the proof's steps do
+  accepted_whole : (a b : List ℕ) (n : ℕ) → Holds [] → verdict_by form a b ≡ Accepted n → IsWhole a
+  unfolding verdict_by pair_refusals
+  accepted_whole a b n start e = record {
+    header_spells = no_header Interaction (header_fault (codes "icnf") a) (first_nil (one_refusal Interaction (header_fault (codes "icnf") a)) _
+      (first_nil (one_refusal Interaction (header_fault (codes "icnf") a) ++ one_refusal Proof (header_fault form.name b)) _ (accepted_none _ n _ e)).0).0;
+    lines_say = (accepted_agrees a b n start e).1;
+  }
+    where
+      no_header : (side : Side) (o : Option (ℕ × Rule)) → one_refusal side o ≡ [] → o ≡ None
+      no_header side None h = refl
+      no_header side (Some f) h = cc h
+
+  agreed_length : (es more fs : List Event) → Agree es more fs → length fs ≡ length more
+  agreed_length es [] [] h = refl
+  agreed_length es [] (f ∷ fs) h = absurd h
+  agreed_length es (e ∷ more) [] h = absurd h
+  agreed_length es (e ∷ more) (f ∷ fs) h = ap suc (agreed_length (es ++ e ∷ []) more fs h.1)
+
+  accepted_partners : (a b : List ℕ) (n : ℕ) → Holds [] → verdict_by form a b ≡ Accepted n
+      → length (values icnf_line (drop 1 (lines a))) ≡ length (filter_map form.event (values form.read (drop 1 (lines b))))
+  accepted_partners a b n start e = agreed_length [] _ _ (accepted_agrees a b n start e).0.0
 
   -- whether an event is a query
   asks : Event → Bool
@@ -180,7 +208,7 @@ module _ {S : Type 0} (form : ProofForm S) (Holds : List S → Type 0)
       let r = accepted_agrees a b n start e in
       let proof_values = values form.read (drop 1 (lines b)) in
       number_is _ n _ e ∙ sym (length-filter (is_query form) proof_values) ∙ counted_events proof_values
-      ∙ agreed_count [] (filter_map form.event proof_values) (values icnf_line (drop 1 (lines a))) r.0
+      ∙ agreed_count [] (filter_map form.event proof_values) (values icnf_line (drop 1 (lines a))) r.0.0
     where
       number_is : (queries n : ℕ) (rs : List Refusal) → verdict_of queries rs ≡ Accepted n → n ≡ queries
       number_is queries n [] e = cc e
@@ -240,6 +268,17 @@ pub verdict_certifies : (form : Form) (a b : List ℕ) (n : ℕ) → verdict for
 unfolding verdict
 verdict_certifies Idrup a b n e = accepted_certified without_ids Justified justified-push sound_without_ids a b n nothing_justified e
 verdict_certifies Lidrup a b n e = accepted_certified with_ids IdsJustified ids-justified-push sound_with_ids a b n no_ids_justified e
+
+-- its interaction is whole
+pub verdict_whole : (form : Form) (a b : List ℕ) (n : ℕ) → verdict form a b ≡ Accepted n → IsWhole a
+unfolding verdict
+verdict_whole Idrup a b n e = accepted_whole without_ids Justified justified-push sound_without_ids a b n nothing_justified e
+verdict_whole Lidrup a b n e = accepted_whole with_ids IdsJustified ids-justified-push sound_with_ids a b n no_ids_justified e
+
+pub verdict_partners : (form : Form) (a b : List ℕ) (n : ℕ) → verdict form a b ≡ Accepted n → length (events_in a) ≡ length (events_among form (steps_in form b))
+unfolding verdict
+verdict_partners Idrup a b n e = accepted_partners without_ids Justified justified-push sound_without_ids a b n nothing_justified e
+verdict_partners Lidrup a b n e = accepted_partners with_ids IdsJustified ids-justified-push sound_with_ids a b n no_ids_justified e
 
 -- the number of an accepted pair is that of the interaction's queries
 pub verdict_counts : (form : Form) (a b : List ℕ) (n : ℕ) → verdict form a b ≡ Accepted n → n ≡ length (filter (λ e. is_some (query_of e)) (events_in a))

@@ -18,7 +18,7 @@ use Rattle.session_rules.specs.History.{inputs, assumed, order_faults, model_fau
 use Rattle.session_rules.specs.Own.{added_clause, removed_clause, weakened_clause, restored_clause, copies, active_copies, weakened_copies, events_of, own_faults, standing_after, clause_of, id_events_of, own_id_faults, hint_faults}
 use Rattle.lits.proofs.Members.{all_at, all_from, has_at, has_from}
 use Rattle.session_rules.proofs.Closing.{satisfies-neg}
-use Rattle.session_laws.specs.Kept.{WithoutOwnFaults}
+use Rattle.session_laws.specs.Keeping.{WithoutOwnFaults}
 use Rattle.session_laws.proofs.Justified.{Entails, Justified, justified-push}
 use Rattle.session_laws.proofs.IdsJustified.{IdsJustified, ids-justified-push, none_broken, first_nil}
 use Rattle.session_laws.proofs.Certify.{missing_none, model_certified, SameSets, SoundContent}

@@ -18,7 +18,7 @@ use Rattle.session_rules.specs.Verdicts as faults
 use Rattle.session_rules.proofs.Positions.{said_at, take_all}
 use Rattle.session_rules.proofs.Ascending.{Ascends, ascends_weaken, above_low}
 use Rattle.session_rules.proofs.RuleNumbers.{own_rule_number, pair_rule_number}
-use Rattle.session_rules.proofs.LeastFault.{verdict_least}
+use Rattle.session_rules.proofs.LeastFault.{verdict_least, keeps_from_none}
 use Rattle.session_laws.specs.Refusals.{file_of, IsLineOf, KeepsItsRules, KeepRules, ProofRefused, InteractionRefused}
 
 -- ---- The numbers of lines ascend
@@ -164,6 +164,13 @@ module _ (form : Form) (a b : List ℕ) where
     };
   }
 
+  -- no own fault has the key of a further line or a later one
+  own_earlier : (key : List ℕ) (r : Refusal) → IsOwnFault form b key r → IsAtMost (5 ∷ []) key → ⊥
+  own_earlier _ _ (faults.header number rule e) g = elim g [ inl lt ↦ omega (arith, lt) | inr same ↦ omega (arith, same.0) ]
+  own_earlier _ _ (faults.broken_line k line rule at stops v) g = elim g [ inl lt ↦ omega (arith, lt) | inr same ↦ omega (arith, same.0) ]
+  own_earlier _ _ (faults.own_rule k line rule at f) g = elim g [ inl lt ↦ omega (arith, lt) | inr same ↦ omega (arith, same.0) ]
+  own_earlier _ _ (faults.unfinished whole busy) g = elim g [ inl lt ↦ omega (arith, lt) | inr same ↦ omega (arith, same.0) ]
+
   -- what a refusal says, by the side
   abbrev Says : Side → ℕ → Rule → Type 0
   Says Proof number rule = ProofRefused form b number rule
@@ -179,27 +186,34 @@ module _ (form : Form) (a b : List ℕ) where
   says _ _ (faults.interaction_header number rule e) least = inl e
   says _ _ (faults.own key r f) least = own_says key r f least
   says _ _ (faults.ended k line e at step none) least = inr (before_line k 20 line least (omega (arith, slice_get_within (steps_in form b) k step.step step.is_step)) at)
-  says _ _ (faults.partner_broken k e m rule step is v) least = inr (record {
+  says _ _ (faults.partner_broken k e m rule step is v) least = inr (inl (record {
     place = k;
+    event = e;
+    is_event_step = step;
     line = m;
     is_partner = is;
     is_number = refl;
+    breaks = inl v;
     proof_keeps = up_to_partner k 20 (omega arith) least (slice_get_within (steps_in form b) k step.step step.is_step);
-  })
-  says _ _ (faults.pair_rule k m rule f) least = inr (record {
+  }))
+  says _ _ (faults.pair_rule k m rule f) least = inr (inl (record {
     place = k;
+    event = f.event;
+    is_event_step = f.is_event_step;
     line = m;
     is_partner = f.is_partner;
     is_number = refl;
+    breaks = inr f;
     proof_keeps = up_to_partner k (rule_number rule) (pair_rule_number _ _ _ rule f.breaks) least (slice_get_within (steps_in form b) k f.is_event_step.step f.is_event_step.is_step);
-  })
-  says _ _ (faults.surplus line whole at) least = inr (record {
-    place = length (steps_in form b);
+  }))
+  says _ _ (faults.surplus line whole at) least = inr (inr (record {
     line = line;
-    is_partner = subst (λ ps. slice_get (body a) (length (events_among form ps)) ≡ Some line) (sym (take_all (steps_in form b) (length (steps_in form b)) (omega arith))) at;
+    is_left = at;
     is_number = refl;
-    proof_keeps = whole_proof 5 (omega arith) least whole _;
-  })
+    is_rule = refl;
+    all_say = whole;
+    proof_keeps = keeps_from_none form b (λ key r f. own_earlier key r f (least key r (faults.own key r f)));
+  }))
 
   pub refused_line : (side : Side) (number : ℕ) (rule : Rule) → verdict form a b ≡ Refused side number rule → IsFirst (IsFault form a b) (refusal side number rule)
   refused_line side number rule e = subst (λ v. IsVerdict form a b v) e (verdict_least form a b)

@@ -13,14 +13,14 @@ ghost use Rattle.session_rules.specs.declared.LStep.TheVariants as lsteps;
 ghost use Rattle.session_rules.specs.Logic.{is_part, same_set, Implies, Contradicts, IsSatisfiable};
 ghost use Rattle.session_rules.specs.History.{inputs, assumed, query_of};
 ghost use Rattle.session_rules.specs.Own.{active_copies, weakened_copies, events_of, own_faults, standing_after, clause_of, id_events_of, own_id_faults};
-ghost use Rattle.session_laws.specs.Kept.{WithoutOwnFaults, joined};
+ghost use Rattle.session_laws.specs.Keeping.{WithoutOwnFaults};
 ghost use Rattle.session_rules.specs.declared.Rule.{Rule};
 ghost use Rattle.session_rules.specs.declared.Side.{Side};
 ghost use Rattle.session_rules.specs.declared.Side.TheVariants.{Interaction, Proof};
 ghost use Rattle.session_rules.specs.declared.Verdict.TheVariants.{Accepted, Refused};
 ghost use Rattle.session_rules.specs.Pair.{verdict, refusal, Certified, events_in};
-ghost use Rattle.session_rules.specs.Verdicts.{IsFault};
-ghost use Rattle.session_laws.specs.Refusals.{file_of, IsLineOf, ProofRefused, InteractionRefused};
+ghost use Rattle.session_rules.specs.Verdicts.{steps_in, events_among, IsFault};
+ghost use Rattle.session_laws.specs.Refusals.{file_of, IsLineOf, ProofRefused, InteractionRefused, IsWhole};
 
 /// Copies of clauses are counted by their sets.
 pub fn copies_are_counted_by_sets()
@@ -53,23 +53,20 @@ pub fn cores_contradict()
         → IsTrue (is_part u (assumed (id_events_of ps))) × Contradicts (inputs (id_events_of ps)) u }
 {}
 
-/// An accepted interaction has a model at each satisfiable query and a contradicted core at each unsatisfiable one, and
-/// the verdict's number is that of its queries.
+/// An accepted interaction has a model at each satisfiable query and a contradicted core at each unsatisfiable one, each of its
+/// lines says an event and is held against the proof, and the verdict's number is that of its queries.
 pub fn acceptance_certifies()
     ensures certified { (form : Form) (a b : List ℕ) (n : ℕ) → verdict form a b ≡ Accepted n → Certified (events_in a) }
+    ensures whole { (form : Form) (a b : List ℕ) (n : ℕ) → verdict form a b ≡ Accepted n → IsWhole a }
+    ensures partners { (form : Form) (a b : List ℕ) (n : ℕ) → verdict form a b ≡ Accepted n
+        → length (events_in a) ≡ length (events_among form (steps_in form b)) }
     ensures queries { (form : Form) (a b : List ℕ) (n : ℕ) → verdict form a b ≡ Accepted n
         → n ≡ length (filter (λ e. is_some (query_of e)) (events_in a)) }
 {}
 
-/// How the streams are cut into pieces doesn't matter: the verdict depends on their bytes alone.
-pub fn cutting_does_not_matter()
-    ensures { (form : Form) (interaction interaction_again proof proof_again : List (List ℕ))
-        → joined interaction ≡ joined interaction_again → joined proof ≡ joined proof_again
-        → verdict form (joined interaction) (joined proof) ≡ verdict form (joined interaction_again) (joined proof_again) }
-{}
-
 /// A refusal names a line that is there, or the end line, and a rule that this line breaks. Each line of the proof with a lesser
-/// number, or up to the step whose partner is named, says a step that keeps all rules of its own.
+/// number, or up to the event whose partner is named, says a step that keeps all rules of its own; where a line behind the partners
+/// of all events is named, the whole proof keeps its rules.
 pub fn refusal_names_first_broken_rule()
     ensures line_is_there { (form : Form) (a b : List ℕ) (side : Side) (number : ℕ) (rule : Rule)
         → verdict form a b ≡ Refused side number rule → IsLineOf (file_of side a b) number }

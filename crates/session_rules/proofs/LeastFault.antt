@@ -153,7 +153,7 @@ module _ (form : Form) (b : List ℕ) where
   no_header None e none = e
   no_header (Some f) e none = absurd (none _ _ (faults.header f.0 f.1 e))
 
-  keeps_from_none : HasNone (IsOwnFault form b) → KeepsOwnRules form b
+  pub keeps_from_none : HasNone (IsOwnFault form b) → KeepsOwnRules form b
   keeps_from_none none = record {
     header_spells = no_header (header_fault (rules_of form).name b) refl none;
     lines_spell = none_broken (all_said none);

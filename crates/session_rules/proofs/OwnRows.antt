@@ -36,3 +36,15 @@ broken_line_before_open_query = refl
 own_rule_before_later_broken_line : own_row Lidrup "p lidrup\ni 1 1 0\ni 1 2 0\nx\n" ≡ Some (3, rules.IdTaken)
 unfolding own_row
 own_rule_before_later_broken_line = refl
+
+lemma_refused : own_row Idrup "p idrup\ni 1 2 0\ni -1 2 0\nw 1 2 0\nl 2 0\n" ≡ Some (5, rules.Lemma)
+unfolding own_row
+lemma_refused = refl
+
+deletion_refused : own_row Idrup "p idrup\ni 1 2 0\nw 2 1 0\nd 1 2 0\n" ≡ Some (4, rules.NotActive 1)
+unfolding own_row
+deletion_refused = refl
+
+restoring_refused : own_row Idrup "p idrup\ni 1 2 0\nr 1 2 0\n" ≡ Some (3, rules.NotWeakened 1)
+unfolding own_row
+restoring_refused = refl

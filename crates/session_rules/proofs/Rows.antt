@@ -1,5 +1,5 @@
 -- The verdict on small pairs, each computed.
-use Rattle.std.proofs.Common.{◌≡◌, codes, refl}
+use Rattle.std.proofs.Common.{◌≡◌, ℕ, codes, refl}
 use Prim.Native.String.{String}
 use Rattle.lits.specs.Word.{literal_word, id_word, magnitude, numeral}
 use Rattle.session_rules.specs.declared.Form.{Form}
@@ -12,7 +12,7 @@ use Rattle.session_rules.specs.Lines.{lines, lines_within, all_lines, numbered, 
 use Rattle.session_rules.specs.Logic.{closes, propagated, propagated_times, hints_fail, hints_fail_from}
 use Rattle.session_rules.specs.Reading.{icnf_line, idrup_line, lidrup_line, header_line, header_fault, literal_list, id_list, own_id, status_word, same_word, values_of}
 use Rattle.session_rules.specs.Own.{own_faults, own_id_faults}
-use Rattle.session_rules.specs.Pair.{pair_faults, faults_from, pair_refusals, verdict_by, verdict}
+use Rattle.session_rules.specs.Pair.{pair_faults, faults_from, pair_refusals, verdict_by, verdict, verdict_within}
 
 unfoldable pub row : Form → String → String → Verdict
 unfolding verdict verdict_by pair_refusals faults_from pair_faults own_faults own_id_faults closes propagated propagated_times hints_fail hints_fail_from values_of icnf_line idrup_line lidrup_line literal_list id_list own_id status_word same_word literal_word magnitude numeral id_word header_line header_fault lines lines_within all_lines numbered words ends_in_word end_line end_line_within
@@ -312,3 +312,51 @@ header_excess = refl
 pub model_checker : row Idrup "p icnf\nc two steps\ni 1 0\ni -1 2 0\nq -2 0\ns UNSATISFIABLE\nu -2 0\ni -2 3 4 0\nq -3 0\ns SATISFIABLE\nm 1 2 -3 4 0\nq -3 -4 0\ns UNSATISFIABLE\nu -3 -4 0\ni -4 0\nq -3 0\ns UNSATISFIABLE\nu -3 0\n" "p idrup\ni 1 0\ni -1 2 0\nq -2 0\ns UNSATISFIABLE\nu -2 0\nl 2 0\nd -1 2 0\nw 1 0\ni -2 3 4 0\nq -3 0\ns SATISFIABLE\nm 1 2 -3 4 0\nq -3 -4 0\ns UNSATISFIABLE\nu -3 -4 0\ni -4 0\nq -3 0\ns UNSATISFIABLE\nu -3 0\n" ≡ Accepted 4
 unfolding row
 model_checker = refl
+
+-- ---- With ids: queries, models, cores and their hints
+
+-- accepted 2 queries
+pub core_and_model_with_ids : row Lidrup "p icnf\ni 1 2 0\ni -1 2 0\nq -2 0\ns UNSATISFIABLE\nu -2 0\nq 1 0\ns SATISFIABLE\nm 1 2 0\n" "p lidrup\ni 1 1 2 0\ni 2 -1 2 0\nq -2 0\ns UNSATISFIABLE\nu -2 0 1 2 0\nq 1 0\ns SATISFIABLE\nm 1 2 0\n" ≡ Accepted 2
+unfolding row
+core_and_model_with_ids = refl
+
+-- refused proof 6 Hint 2: the hints end before a clause is false
+pub core_hints_end : row Lidrup "p icnf\ni 1 2 0\ni -1 2 0\nq -2 0\ns UNSATISFIABLE\nu -2 0\n" "p lidrup\ni 1 1 2 0\ni 2 -1 2 0\nq -2 0\ns UNSATISFIABLE\nu -2 0 1 0\n" ≡ Refused Proof 6 (rules.Hint 2)
+unfolding row
+core_hints_end = refl
+
+-- refused proof 7 Hint 1: the clause is weakened
+pub core_hint_weakened : row Lidrup "p icnf\ni 1 2 0\ni -1 2 0\nq -2 0\ns UNSATISFIABLE\nu -2 0\n" "p lidrup\ni 1 1 2 0\ni 2 -1 2 0\nw 1 0\nq -2 0\ns UNSATISFIABLE\nu -2 0 1 2 0\n" ≡ Refused Proof 7 (rules.Hint 1)
+unfolding row
+core_hint_weakened = refl
+
+-- refused proof 5 ModelInput 1
+pub model_input_with_ids : row Lidrup "p icnf\ni 1 2 0\nq 0\ns SATISFIABLE\nm -1 -2 0\n" "p lidrup\ni 1 1 2 0\nq 0\ns SATISFIABLE\nm -1 -2 0\n" ≡ Refused Proof 5 (rules.ModelInput 1)
+unfolding row
+model_input_with_ids = refl
+
+-- ---- Where no more than some bytes are read
+
+unfoldable pub row_within : ℕ → String → String → Verdict
+unfolding verdict_within faults_from pair_faults own_faults closes propagated propagated_times values_of icnf_line idrup_line literal_list status_word same_word literal_word magnitude numeral header_line lines_within all_lines numbered words ends_in_word end_line_within
+row_within bound a b = verdict_within bound Idrup (codes a) (codes b)
+
+-- refused proof 2 Length: the 14th byte of the proof isn't read
+pub proof_too_long : row_within 13 "p icnf\ni 1 0\n" "p idrup\ni 1 0\n" ≡ Refused Proof 2 rules.Length
+unfolding row_within
+proof_too_long = refl
+
+-- accepted 0 queries, with a byte more
+pub proof_long_enough : row_within 14 "p icnf\ni 1 0\n" "p idrup\ni 1 0\n" ≡ Accepted 0
+unfolding row_within
+proof_long_enough = refl
+
+-- refused proof 2 Number: a word that ended before the bound is at fault first
+pub wrong_before_bound : row_within 13 "p icnf\ni 1 0\n" "p idrup\ni x 10\n" ≡ Refused Proof 2 rules.Number
+unfolding row_within
+wrong_before_bound = refl
+
+-- refused interaction 3 Length: the bound stands in a comment behind the last partner
+pub interaction_too_long : row_within 16 "p icnf\ni 1 0\nc comment\n" "p idrup\ni 1 0\n" ≡ Refused Interaction 3 rules.Length
+unfolding row_within
+interaction_too_long = refl

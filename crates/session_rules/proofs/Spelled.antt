@@ -22,6 +22,8 @@ use Rattle.session_rules.specs.declared.LStep.TheVariants as lsteps
 use Rattle.session_rules.specs.Lines.{Line, lines, most_bytes, end_line, lines_within, all_lines, numbered, line_of, counts, words, is_nil, is_blank, is_line_feed, has_content}
 use Rattle.session_rules.specs.Reading.{Fault, literal_list, id_list, own_id, status_word, same_word, of_literals, of_ids, of_status, icnf_line, script_line, idrup_line, lidrup_line, header_line, header_fault, first_fault, with_number, rule_or_none, of_whole_line, values_of, steps_of}
 use Rattle.session_rules.specs.Spelling.{literal_words, id_words, status_text, event_words, step_words, id_step_words, header_words, line_text, text, AreLiterals, AreIds, IsId, IsEvent, IsScriptLine, IsStep, IsIdStep, numbered_values}
+use Rattle.std.proofs.lemmas.List.{length-map}
+use Rattle.session_rules.specs.Verdicts.{IsReadAs}
 
 -- ---- From words to values
 
@@ -300,6 +302,11 @@ id_step_plain (lsteps.Core ls hs) h = record { content = refl; each = both_plain
 
 -- ---- A whole text
 
+length-plain_lines : (ws : List (List (List ℕ))) (n : ℕ) → length (plain_lines n ws) ≡ length ws
+unfolding plain_lines
+length-plain_lines [] n = refl
+length-plain_lines (w ∷ ws) n = ap suc (length-plain_lines ws (n + 1))
+
 module _ {A : Type 0} (Fits : A → Type 0) (words_of : A → List (List ℕ)) (read : List (List ℕ) → Result A Fault)
     (back : (x : A) → Fits x → read (words_of x) ≡ Ok x) (plain : (x : A) → Fits x → IsPlainLine (words_of x)) where
   values_of-plain_lines : (xs : List A) (n : ℕ) → All Fits xs → values_of read (plain_lines n (map words_of xs)) ≡ numbered_values n xs
@@ -328,17 +335,31 @@ module _ {A : Type 0} (Fits : A → Type 0) (words_of : A → List (List ℕ)) (
       ∙ lines_within-text most_bytes (header_words name ∷ map words_of xs) (All-cons IsPlainLine (header_words name) (map words_of xs) header (all_plain xs h)) short
 
   -- the values of a text's lines are the values
-  pub steps_of-text : (name : List ℕ) (xs : List A) → IsPlainLine (header_words name) → All Fits xs → length (text words_of name xs) ≤ most_bytes
+  steps_of-text : (name : List ℕ) (xs : List A) → IsPlainLine (header_words name) → All Fits xs → length (text words_of name xs) ≤ most_bytes
       → steps_of read (text words_of name xs) ≡ numbered_values 2 xs
   unfolding plain_lines
   steps_of-text name xs header h small = ap (λ ls. values_of read (drop 1 ls)) (text_lines name xs header h small) ∙ values_of-plain_lines xs 2 h
 
   -- the header of a text has no fault
-  pub header_fault-text : (name : List ℕ) (xs : List A) → IsPlainLine (header_words name) → header_line name (header_words name) ≡ Ok tt
+  header_fault-text : (name : List ℕ) (xs : List A) → IsPlainLine (header_words name) → header_line name (header_words name) ≡ Ok tt
       → All Fits xs → length (text words_of name xs) ≤ most_bytes → header_fault name (text words_of name xs) ≡ None
   unfolding header_fault plain_lines
   header_fault-text name xs header ok h small =
       ap (first_fault name (end_line (text words_of name xs))) (text_lines name xs header h small) ∙ ap (λ o. with_number 1 (rule_or_none (of_whole_line o))) ok
+
+  -- no line is left behind the values of a text
+  length-text_lines : (name : List ℕ) (xs : List A) → IsPlainLine (header_words name) → All Fits xs → length (text words_of name xs) ≤ most_bytes
+      → length (drop 1 (lines (text words_of name xs))) ≡ length xs
+  unfolding plain_lines
+  length-text_lines name xs header h small = ap (λ ls. length (drop 1 ls)) (text_lines name xs header h small) ∙ length-plain_lines (map words_of xs) 2 ∙ length-map xs words_of
+
+  pub text_back : (name : List ℕ) (xs : List A) → IsPlainLine (header_words name) → header_line name (header_words name) ≡ Ok tt
+      → All Fits xs → length (text words_of name xs) ≤ most_bytes → IsReadAs read name (text words_of name xs) xs
+  text_back name xs header ok h small = record {
+    header_spells = header_fault-text name xs header ok h small;
+    lines_say = steps_of-text name xs header h small;
+    none_left = length-text_lines name xs header h small;
+  }
 
 -- the headers
 icnf_header : IsPlainLine (header_words (codes "icnf"))
@@ -352,38 +373,21 @@ lidrup_header = record { content = refl; each = refl }
 
 -- the texts of the four forms are read back
 pub icnf_text_back : (es : List Event) → All IsEvent es → length (text event_words (codes "icnf") es) ≤ most_bytes
-    → steps_of icnf_line (text event_words (codes "icnf") es) ≡ numbered_values 2 es
-icnf_text_back es = steps_of-text IsEvent event_words icnf_line icnf_line-event_words event_plain (codes "icnf") es icnf_header
+    → IsReadAs icnf_line (codes "icnf") (text event_words (codes "icnf") es) es
+unfolding header_line same_word
+icnf_text_back es = text_back IsEvent event_words icnf_line icnf_line-event_words event_plain (codes "icnf") es icnf_header refl
 
 pub script_text_back : (es : List Event) → All IsScriptLine es → length (text event_words (codes "icnf") es) ≤ most_bytes
-    → steps_of script_line (text event_words (codes "icnf") es) ≡ numbered_values 2 es
-script_text_back es = steps_of-text IsScriptLine event_words script_line script_line-event_words script_plain (codes "icnf") es icnf_header
+    → IsReadAs script_line (codes "icnf") (text event_words (codes "icnf") es) es
+unfolding header_line same_word
+script_text_back es = text_back IsScriptLine event_words script_line script_line-event_words script_plain (codes "icnf") es icnf_header refl
 
 pub idrup_text_back : (ps : List Step) → All IsStep ps → length (text step_words (codes "idrup") ps) ≤ most_bytes
-    → steps_of idrup_line (text step_words (codes "idrup") ps) ≡ numbered_values 2 ps
-idrup_text_back ps = steps_of-text IsStep step_words idrup_line idrup_line-step_words step_plain (codes "idrup") ps idrup_header
+    → IsReadAs idrup_line (codes "idrup") (text step_words (codes "idrup") ps) ps
+unfolding header_line same_word
+idrup_text_back ps = text_back IsStep step_words idrup_line idrup_line-step_words step_plain (codes "idrup") ps idrup_header refl
 
 pub lidrup_text_back : (ps : List LStep) → All IsIdStep ps → length (text id_step_words (codes "lidrup") ps) ≤ most_bytes
-    → steps_of lidrup_line (text id_step_words (codes "lidrup") ps) ≡ numbered_values 2 ps
-lidrup_text_back ps = steps_of-text IsIdStep id_step_words lidrup_line lidrup_line-id_step_words id_step_plain (codes "lidrup") ps lidrup_header
-
--- and their headers too
-pub icnf_header_back : (es : List Event) → All IsEvent es → length (text event_words (codes "icnf") es) ≤ most_bytes
-    → header_fault (codes "icnf") (text event_words (codes "icnf") es) ≡ None
+    → IsReadAs lidrup_line (codes "lidrup") (text id_step_words (codes "lidrup") ps) ps
 unfolding header_line same_word
-icnf_header_back es = header_fault-text IsEvent event_words icnf_line icnf_line-event_words event_plain (codes "icnf") es icnf_header refl
-
-pub script_header_back : (es : List Event) → All IsScriptLine es → length (text event_words (codes "icnf") es) ≤ most_bytes
-    → header_fault (codes "icnf") (text event_words (codes "icnf") es) ≡ None
-unfolding header_line same_word
-script_header_back es = header_fault-text IsScriptLine event_words script_line script_line-event_words script_plain (codes "icnf") es icnf_header refl
-
-pub idrup_header_back : (ps : List Step) → All IsStep ps → length (text step_words (codes "idrup") ps) ≤ most_bytes
-    → header_fault (codes "idrup") (text step_words (codes "idrup") ps) ≡ None
-unfolding header_line same_word
-idrup_header_back ps = header_fault-text IsStep step_words idrup_line idrup_line-step_words step_plain (codes "idrup") ps idrup_header refl
-
-pub lidrup_header_back : (ps : List LStep) → All IsIdStep ps → length (text id_step_words (codes "lidrup") ps) ≤ most_bytes
-    → header_fault (codes "lidrup") (text id_step_words (codes "lidrup") ps) ≡ None
-unfolding header_line same_word
-lidrup_header_back ps = header_fault-text IsIdStep id_step_words lidrup_line lidrup_line-id_step_words id_step_plain (codes "lidrup") ps lidrup_header refl
+lidrup_text_back ps = text_back IsIdStep id_step_words lidrup_line lidrup_line-id_step_words id_step_plain (codes "lidrup") ps lidrup_header refl

@@ -17,8 +17,8 @@ use Rattle.session_rules.specs.declared.Rule.TheVariants as rules
 use Rattle.session_rules.specs.declared.Verdict.{Verdict}
 use Rattle.session_rules.specs.declared.Verdict.TheVariants.{Accepted, Refused}
 use Rattle.session_rules.specs.Logic.{same_set, is_part, IsSatisfiable, Contradicts}
-use Rattle.session_rules.specs.Lines.{Line, lines, end_line, has_content}
-use Rattle.session_rules.specs.Reading.{Fault, value_of, icnf_line, idrup_line, lidrup_line, header_fault, steps_of}
+use Rattle.session_rules.specs.Lines.{Line, lines, lines_within, end_line, end_line_within, has_content}
+use Rattle.session_rules.specs.Reading.{Fault, value_of, values_of, icnf_line, idrup_line, lidrup_line, first_fault, header_fault, steps_of}
 use Rattle.session_rules.specs.History.{phase, assumed, inputs, query_of, broken_at, broken_unless, first_missing}
 use Rattle.session_rules.specs.Own.{event_of, own_faults, id_event_of, own_id_faults}
 
@@ -163,6 +163,16 @@ verdict_by form a b = verdict_of (count_by (is_query form) (map (λ p. p.1) (ste
 unfoldable pub verdict : Form → List ℕ → List ℕ → Verdict
 verdict Idrup a b = verdict_by without_ids a b
 verdict Lidrup a b = verdict_by with_ids a b
+
+-- the same of streams of which no more than `bound` bytes are read
+abbrev pub verdict_by_within : {S : Type 0} → ℕ → ProofForm S → List ℕ → List ℕ → Verdict
+verdict_by_within bound form a b = verdict_of (count_by (is_query form) (map (λ p. p.1) (values_of form.read (drop 1 (lines_within bound b)))))
+    (one_refusal Interaction (first_fault (codes "icnf") (end_line_within bound a) (lines_within bound a)) ++ one_refusal Proof (first_fault form.name (end_line_within bound b) (lines_within bound b))
+    ++ faults_from form [] (end_line_within bound b) (drop 1 (lines_within bound b)) (drop 1 (lines_within bound a)))
+
+unfoldable pub verdict_within : ℕ → Form → List ℕ → List ℕ → Verdict
+verdict_within bound Idrup a b = verdict_by_within bound without_ids a b
+verdict_within bound Lidrup a b = verdict_by_within bound with_ids a b
 
 -- ---- What an interaction certifies
 

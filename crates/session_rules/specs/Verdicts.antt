@@ -2,7 +2,7 @@
 -- verdict on a proof by itself. Keys begin with 1 and 2 for the headers, 3 for a line of the proof, 4 for an open query and 5
 -- for a further line; behind a 3 stand the line's place and then 1 for its spelling, the number of a rule, or 20 for a partner
 -- that is missing or broken. Places are counted by how many lines, steps or events stand before.
-use Rattle.std.specs.Prelude.{◌≡◌, ℕ, ◌<◌, ◌⊎◌, not, ◌&&◌, if◌then◌else◌, List, [], ◌∷◌, length, map, take, drop, count_by, Contains, slice_get, Option, Some, None, filter_map, Ok, Err, codes}
+use Rattle.std.specs.Prelude.{◌≡◌, ℕ, ◌<◌, ◌⊎◌, not, ◌&&◌, if◌then◌else◌, List, [], ◌∷◌, length, map, take, drop, count_by, Contains, slice_get, Option, Some, None, filter_map, Result, Ok, Err, codes}
 use Rattle.session_rules.specs.declared.Form.{Form}
 use Rattle.session_rules.specs.declared.Form.TheVariants.{Idrup, Lidrup}
 use Rattle.session_rules.specs.declared.Side.TheVariants.{Interaction, Proof}
@@ -15,10 +15,11 @@ use Rattle.session_rules.specs.declared.Rule.TheVariants as rules
 use Rattle.session_rules.specs.declared.Verdict.{Verdict}
 use Rattle.session_rules.specs.declared.Verdict.TheVariants.{Accepted, Refused}
 use Rattle.session_rules.specs.Lines.{Line, lines, end_line, has_content}
-use Rattle.session_rules.specs.Reading.{value_of, icnf_line, header_fault, steps_of}
+use Rattle.session_rules.specs.Reading.{Fault, value_of, icnf_line, header_fault, steps_of}
 use Rattle.session_rules.specs.Numbers.{rule_number}
 use Rattle.session_rules.specs.History.{phase, assumed}
 use Rattle.session_rules.specs.Pair.{ProofForm, without_ids, with_ids, pair_faults, Refusal, refusal, own_refusals, is_query, verdict}
+use Rattle.session_rules.specs.Spelling.{numbered_values}
 
 -- ---- The lines and steps of a pair
 
@@ -35,6 +36,12 @@ rules_of Lidrup = with_ids
 -- the lines after the header
 abbrev pub body : List ℕ → List Line
 body bytes = drop 1 (lines bytes)
+
+-- a stream is read as just these values: its header has no fault, each line behind it says the next value, and no line is left
+pub record IsReadAs {A : Type 0} (read : List (List ℕ) → Result A Fault) (name bytes : List ℕ) (values : List A) : Type 0 where
+  pub header_spells : header_fault name bytes ≡ None
+  pub lines_say : steps_of read bytes ≡ numbered_values 2 values
+  pub none_left : length (body bytes) ≡ length values
 
 -- the steps of a proof: what the lines after its header say, before the first that is broken
 abbrev pub steps_in : (form : Form) → List ℕ → List (StepOf form)

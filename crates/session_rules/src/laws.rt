@@ -5,8 +5,9 @@ ghost use Rattle.session_rules.specs.declared.Step.{Step};
 ghost use Rattle.session_rules.specs.declared.LStep.{LStep};
 ghost use Rattle.session_rules.specs.Lines.{most_bytes};
 ghost use Rattle.session_rules.specs.Logic as logic;
-ghost use Rattle.session_rules.specs.Reading.{icnf_line, script_line, idrup_line, lidrup_line, header_fault, steps_of};
-ghost use Rattle.session_rules.specs.Spelling.{text, event_words, step_words, id_step_words, IsEvent, IsScriptLine, IsStep, IsIdStep, numbered_values};
+ghost use Rattle.session_rules.specs.Reading.{icnf_line, script_line, idrup_line, lidrup_line};
+ghost use Rattle.session_rules.specs.Spelling.{text, event_words, step_words, id_step_words, IsEvent, IsScriptLine, IsStep, IsIdStep};
+ghost use Rattle.session_rules.specs.Verdicts.{IsReadAs};
 
 /// The rounds over all clauses close exactly where there is a closing sequence.
 pub fn rounds_find_closing()
@@ -26,23 +27,15 @@ pub fn hints_are_sound()
         → logic.hints_fail active ls hints ≡ Option.None → logic.Closes cs ls }
 {}
 
-/// What is written of values, in no more bytes than are read of a stream, is read as these values, each with its line's
-/// number, and its header has no fault.
+/// What is written of values, in no more bytes than are read of a stream, is read as just these values: its header has no fault,
+/// the lines behind it say the values one after another, from line 2 on, and no further line is there.
 pub fn texts_are_read_back()
     ensures interaction { (es : List Event) → All IsEvent es → length (text event_words (codes "icnf") es) ≤ most_bytes
-        → steps_of icnf_line (text event_words (codes "icnf") es) ≡ numbered_values 2 es }
-    ensures interaction_header { (es : List Event) → All IsEvent es → length (text event_words (codes "icnf") es) ≤ most_bytes
-        → header_fault (codes "icnf") (text event_words (codes "icnf") es) ≡ Option.None }
+        → IsReadAs icnf_line (codes "icnf") (text event_words (codes "icnf") es) es }
     ensures script { (es : List Event) → All IsScriptLine es → length (text event_words (codes "icnf") es) ≤ most_bytes
-        → steps_of script_line (text event_words (codes "icnf") es) ≡ numbered_values 2 es }
-    ensures script_header { (es : List Event) → All IsScriptLine es → length (text event_words (codes "icnf") es) ≤ most_bytes
-        → header_fault (codes "icnf") (text event_words (codes "icnf") es) ≡ Option.None }
+        → IsReadAs script_line (codes "icnf") (text event_words (codes "icnf") es) es }
     ensures proof { (ps : List Step) → All IsStep ps → length (text step_words (codes "idrup") ps) ≤ most_bytes
-        → steps_of idrup_line (text step_words (codes "idrup") ps) ≡ numbered_values 2 ps }
-    ensures proof_header { (ps : List Step) → All IsStep ps → length (text step_words (codes "idrup") ps) ≤ most_bytes
-        → header_fault (codes "idrup") (text step_words (codes "idrup") ps) ≡ Option.None }
+        → IsReadAs idrup_line (codes "idrup") (text step_words (codes "idrup") ps) ps }
     ensures proof_with_ids { (ps : List LStep) → All IsIdStep ps → length (text id_step_words (codes "lidrup") ps) ≤ most_bytes
-        → steps_of lidrup_line (text id_step_words (codes "lidrup") ps) ≡ numbered_values 2 ps }
-    ensures proof_with_ids_header { (ps : List LStep) → All IsIdStep ps → length (text id_step_words (codes "lidrup") ps) ≤ most_bytes
-        → header_fault (codes "lidrup") (text id_step_words (codes "lidrup") ps) ≡ Option.None }
+        → IsReadAs lidrup_line (codes "lidrup") (text id_step_words (codes "lidrup") ps) ps }
 {}

@@ -20,7 +20,8 @@ pub use reading_laws::{
 use std::alloc::{AllocError, Global};
 use std::marker::Model;
 pub use verdict_laws::{
-    earlier_faults_come_first, own_verdict_is_least_own_fault, verdict_is_least_fault,
+    earlier_faults_come_first, most_bytes_bound_the_verdict, own_verdict_is_least_own_fault,
+    verdict_is_least_fault,
 };
 
 /// The number of a clause, from 1 to 2^63 - 1 in a file.

@@ -7,11 +7,11 @@ ghost use Rattle.session_rules.specs.declared.Rule.{Rule};
 ghost use Rattle.session_rules.specs.declared.Side.TheVariants.{Interaction, Proof};
 ghost use Rattle.session_rules.specs.declared.Verdict.{Verdict};
 ghost use Rattle.session_rules.specs.declared.Verdict.TheVariants.{Accepted, Refused};
-ghost use Rattle.session_rules.specs.Lines.{Line};
+ghost use Rattle.session_rules.specs.Lines.{Line, most_bytes};
 ghost use Rattle.session_rules.specs.Reading.{header_fault, value_of};
 ghost use Rattle.session_rules.specs.Numbers.{rule_number};
 ghost use Rattle.session_rules.specs.History.{phase};
-ghost use Rattle.session_rules.specs.Pair.{Refusal, verdict};
+ghost use Rattle.session_rules.specs.Pair.{Refusal, verdict, verdict_within};
 ghost use Rattle.session_rules.specs.Verdicts.{StepOf, rules_of, body, steps_in, events_among, OwnFault, PairFault, IsFault, IsVerdict, RefusedUpTo, own_verdict, IsOwnVerdict, KeepsOwnRules};
 
 /// The verdict is the fault with the least key, and acceptance where there is no fault.
@@ -19,6 +19,11 @@ pub fn verdict_is_least_fault()
     ensures is_least { (form : Form) (a b : List ℕ) (v : Verdict) → verdict form a b ≡ v → IsVerdict form a b v }
     ensures only_least { (form : Form) (a b : List ℕ) (v : Verdict) → IsVerdict form a b v → verdict form a b ≡ v }
     ensures one_a_key { (form : Form) (a b key : List ℕ) (r s : Refusal) → IsFault form a b key r → IsFault form a b key s → r ≡ s }
+{}
+
+/// The verdict is that on streams of which no more than 2^62 bytes are read: the bound has this one use.
+pub fn most_bytes_bound_the_verdict()
+    ensures { (form : Form) (a b : List ℕ) → verdict form a b ≡ verdict_within most_bytes form a b }
 {}
 
 /// A fault of an earlier key comes first: the headers, then for each step in turn its line, its own rules and its partner, then an
