@@ -13,7 +13,8 @@ use Rattle.session_rules.specs.Lines.{Line, lines, lines_within, all_lines, numb
 use Rattle.session_rules.specs.Reading.{broken, header_line, with_number, first_fault, header_fault}
 use Rattle.session_rules.specs.Numbers.{rule_number}
 use Rattle.session_rules.specs.Pair.{Refusal, refusal, verdict}
-use Rattle.session_rules.specs.Verdicts.{StepOf, rules_of, body, steps_in, events_among, OwnFault, IsOwnFault, partner, IsFault, IsAtMost, IsFirst, IsVerdict}
+use Rattle.session_rules.specs.Verdicts.{StepOf, rules_of, body, steps_in, events_among, OwnFault, IsOwnFault, partner, IsFault, IsFirst, IsVerdict}
+use Rattle.session_rules.specs.Keys.{Key, rank, IsAtMost}
 use Rattle.session_rules.specs.Verdicts as faults
 use Rattle.session_rules.proofs.Positions.{said_at, take_all}
 use Rattle.session_rules.proofs.Ascending.{Ascends, ascends_weaken, above_low}
@@ -85,13 +86,13 @@ line_of_header name bytes number rule e = by_lines (lines bytes) (λ l m. m) e
     by_lines [] member f = let g : (end_line bytes, rules.Header) ≡ (number, rule) = cc f in inr (sym (ap (λ (z : ℕ × Rule). z.0) g))
     by_lines (l ∷ ls) member f = inl (l, member l (here l ls), by_rule (broken (header_line name) l) l.number f)
 
-own_line_is_there : (form : Form) (a b key : List ℕ) (r : Refusal) → IsOwnFault form b key r → IsLineOf (file_of r.side a b) r.line
+own_line_is_there : (form : Form) (a b : List ℕ) (key : Key) (r : Refusal) → IsOwnFault form b key r → IsLineOf (file_of r.side a b) r.line
 own_line_is_there form a b _ _ (faults.header number rule e) = line_of_header (rules_of form).name b number rule e
 own_line_is_there form a b _ _ (faults.broken_line k line rule at stops v) = line_of_body b k line at
 own_line_is_there form a b _ _ (faults.own_rule k line rule at f) = line_of_body b k line at
 own_line_is_there form a b _ _ (faults.unfinished whole busy) = inr refl
 
-line_is_there : (form : Form) (a b key : List ℕ) (r : Refusal) → IsFault form a b key r → IsLineOf (file_of r.side a b) r.line
+line_is_there : (form : Form) (a b : List ℕ) (key : Key) (r : Refusal) → IsFault form a b key r → IsLineOf (file_of r.side a b) r.line
 line_is_there form a b _ _ (faults.interaction_header number rule e) = line_of_header (codes "icnf") a number rule e
 line_is_there form a b _ _ (faults.own key r f) = own_line_is_there form a b key r f
 line_is_there form a b _ _ (faults.ended k line e at step none) = line_of_body b k line at
@@ -103,7 +104,7 @@ line_is_there form a b _ _ (faults.surplus line whole at) = line_of_body a _ lin
 
 module _ (form : Form) (a b : List ℕ) where
   abbrev IsLeast : List ℕ → Type 0
-  IsLeast key = (other : List ℕ) (s : Refusal) → IsFault form a b other s → IsAtMost key other
+  IsLeast ns = (other : Key) (s : Refusal) → IsFault form a b other s → IsAtMost ns (rank other)
 
   header_kept : (n : ℕ) (key : List ℕ) → 2 < n → IsLeast (n ∷ key) → header_fault (rules_of form).name b ≡ None
   header_kept n key h least = by_header (header_fault (rules_of form).name b) refl
@@ -165,7 +166,7 @@ module _ (form : Form) (a b : List ℕ) where
   }
 
   -- no own fault has the key of a further line or a later one
-  own_earlier : (key : List ℕ) (r : Refusal) → IsOwnFault form b key r → IsAtMost (5 ∷ []) key → ⊥
+  own_earlier : (key : Key) (r : Refusal) → IsOwnFault form b key r → IsAtMost (5 ∷ []) (rank key) → ⊥
   own_earlier _ _ (faults.header number rule e) g = elim g [ inl lt ↦ omega (arith, lt) | inr same ↦ omega (arith, same.0) ]
   own_earlier _ _ (faults.broken_line k line rule at stops v) g = elim g [ inl lt ↦ omega (arith, lt) | inr same ↦ omega (arith, same.0) ]
   own_earlier _ _ (faults.own_rule k line rule at f) g = elim g [ inl lt ↦ omega (arith, lt) | inr same ↦ omega (arith, same.0) ]
@@ -176,13 +177,13 @@ module _ (form : Form) (a b : List ℕ) where
   Says Proof number rule = ProofRefused form b number rule
   Says Interaction number rule = InteractionRefused form a b number rule
 
-  own_says : (key : List ℕ) (r : Refusal) → IsOwnFault form b key r → IsLeast key → Says r.side r.line r.rule
+  own_says : (key : Key) (r : Refusal) → IsOwnFault form b key r → IsLeast (rank key) → Says r.side r.line r.rule
   own_says _ _ (faults.header number rule e) least = inl e
   own_says _ _ (faults.broken_line k line rule at stops v) least = inr (before_line k 1 line least (omega (arith, stops)) at)
   own_says _ _ (faults.own_rule k line rule at f) least = inr (before_line k (rule_number rule) line least (omega (arith, slice_get_within (steps_in form b) k f.step f.is_step)) at)
   own_says _ _ (faults.unfinished whole busy) least = inr (whole_proof 4 (omega arith) least whole _)
 
-  says : (key : List ℕ) (r : Refusal) → IsFault form a b key r → IsLeast key → Says r.side r.line r.rule
+  says : (key : Key) (r : Refusal) → IsFault form a b key r → IsLeast (rank key) → Says r.side r.line r.rule
   says _ _ (faults.interaction_header number rule e) least = inl e
   says _ _ (faults.own key r f) least = own_says key r f least
   says _ _ (faults.ended k line e at step none) least = inr (before_line k 20 line least (omega (arith, slice_get_within (steps_in form b) k step.step step.is_step)) at)

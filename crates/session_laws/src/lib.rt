@@ -19,6 +19,7 @@ ghost use Rattle.session_rules.specs.declared.Side.{Side};
 ghost use Rattle.session_rules.specs.declared.Side.TheVariants.{Interaction, Proof};
 ghost use Rattle.session_rules.specs.declared.Verdict.TheVariants.{Accepted, Refused};
 ghost use Rattle.session_rules.specs.Pair.{verdict, refusal, Certified, events_in};
+ghost use Rattle.session_rules.specs.Keys.{Key};
 ghost use Rattle.session_rules.specs.Verdicts.{steps_in, events_among, IsFault};
 ghost use Rattle.session_laws.specs.Refusals.{file_of, IsLineOf, ProofRefused, InteractionRefused, IsWhole};
 
@@ -71,7 +72,7 @@ pub fn refusal_names_first_broken_rule()
     ensures line_is_there { (form : Form) (a b : List ℕ) (side : Side) (number : ℕ) (rule : Rule)
         → verdict form a b ≡ Refused side number rule → IsLineOf (file_of side a b) number }
     ensures rule_is_broken { (form : Form) (a b : List ℕ) (side : Side) (number : ℕ) (rule : Rule)
-        → verdict form a b ≡ Refused side number rule → (key : List ℕ) × IsFault form a b key (refusal side number rule) }
+        → verdict form a b ≡ Refused side number rule → (key : Key) × IsFault form a b key (refusal side number rule) }
     ensures proof { (form : Form) (a b : List ℕ) (number : ℕ) (rule : Rule)
         → verdict form a b ≡ Refused Proof number rule → ProofRefused form b number rule }
     ensures interaction { (form : Form) (a b : List ℕ) (number : ℕ) (rule : Rule)

@@ -3,7 +3,7 @@ use Rattle.std.proofs.Common.{◌≡◌, ℕ, ◌<◌, ◌≤◌, List, [], ◌�
 use Rattle.std.proofs.lemmas.List.Elements.{Contains-append_cases}
 use Rattle.lits.proofs.Members.{here, there, not_in_nil, here_or_there}
 use Rattle.session_rules.specs.Pair.{Refusal}
-use Rattle.session_rules.specs.Verdicts.{IsAtMost}
+use Rattle.session_rules.specs.Keys.{IsAtMost}
 
 -- ---- Numbers
 

@@ -6,16 +6,35 @@ use Rattle.session_rules.specs.declared.Rule.{Rule}
 use Rattle.session_rules.specs.Lines.{Line}
 use Rattle.session_rules.specs.Reading.{Fault, value_of}
 use Rattle.session_rules.specs.Pair.{Refusal}
-use Rattle.session_rules.specs.Verdicts.{IsAtMost, IsFirst, HasNone}
+use Rattle.session_rules.specs.Keys.{Key, rank, IsAtMost}
+use Rattle.session_rules.specs.Verdicts.{IsFirstBy, IsFirst, HasNone}
 use Rattle.session_rules.proofs.Positions.{le_cases, get_same, take_next, take_all, get_dropped, drop_all, said, said_within, said_stops, said_next}
 use Rattle.session_rules.proofs.Ascending.{at_most_same, KeysAscend, keys_unique}
 
 -- ---- The first of a list
 
--- the list's first is the first fault, and the list is empty where there is none
+-- the list's first is the first fault, and the list is empty where there is none; here faults go by the numbers of their keys
 abbrev pub First : (List ℕ → Refusal → Type 0) → List Refusal → Type 0
 First Faults [] = HasNone Faults
-First Faults (r ∷ more) = IsFirst Faults r
+First Faults (r ∷ more) = IsFirstBy (λ ns. ns) Faults r
+
+-- faults by the numbers of their keys
+abbrev pub Ranked : (Key → Refusal → Type 0) → List ℕ → Refusal → Type 0
+Ranked Faults ns r = (key : Key) × (rank key ≡ ns) × Faults key r
+
+pub ranked : (Faults : Key → Refusal → Type 0) (ns : List ℕ) (key : Key) (r s : Refusal) → ns ≡ rank key → r ≡ s → Faults key s → Ranked Faults ns r
+ranked Faults ns key r s e f h = (key, sym e, subst (λ z. Faults key z) (sym f) h)
+
+-- the first by numbers is the first
+pub first_ranked : (Faults : Key → Refusal → Type 0) (r : Refusal) → IsFirstBy (λ ns. ns) (Ranked Faults) r → IsFirst Faults r
+first_ranked Faults r h = record {
+  key = h.is_fault.0;
+  is_fault = h.is_fault.2;
+  is_least = λ other s f. subst (λ z. IsAtMost z (rank other)) (sym h.is_fault.1) (h.is_least (rank other) s (other, refl, f));
+}
+
+pub none_ranked : (Faults : Key → Refusal → Type 0) → HasNone (Ranked Faults) → HasNone Faults
+none_ranked Faults h key r f = h (rank key) r (key, refl, f)
 
 -- under another name of the same faults
 pub first_same : (P Q : List ℕ → Refusal → Type 0) (rs : List Refusal) → ((key : List ℕ) (r : Refusal) → P key r → Q key r) → ((key : List ℕ) (r : Refusal) → Q key r → P key r) → First P rs → First Q rs

@@ -14,11 +14,13 @@ use Rattle.session_rules.specs.Reading.{Fault, value_of, header_fault}
 use Rattle.session_rules.specs.Numbers.{rule_number}
 use Rattle.session_rules.specs.History.{phase, broken_unless}
 use Rattle.session_rules.specs.Pair.{Refusal, refusal, refusals, is_idle, unfinished, one_refusal, own_faults_from, own_refusals}
-use Rattle.session_rules.specs.Verdicts.{StepOf, rules_of, body, events_among, IsOwnFault, IsAtMost}
+use Rattle.session_rules.specs.Verdicts.{StepOf, rules_of, body, events_among, IsOwnFault}
+use Rattle.session_rules.specs.Keys.{Key, rank, IsAtMost}
+use Rattle.session_rules.specs.Keys as keys
 use Rattle.session_rules.specs.Verdicts as faults
 use Rattle.session_rules.proofs.Positions.{get_same, said, said_at, said_stops, said_next}
 use Rattle.session_rules.proofs.Ascending.{Ascends, above_low, before_first, KeysAscend}
-use Rattle.session_rules.proofs.Listed.{First, first_same, first_join, AtLine, AtEnd, listed_key, first_listed}
+use Rattle.session_rules.proofs.Listed.{Ranked, ranked, First, first_same, first_join, AtLine, AtEnd, listed_key, first_listed}
 use Rattle.session_rules.proofs.RuleNumbers.{own_ascends}
 
 -- ---- The rules of one line as faults with their keys
@@ -126,7 +128,7 @@ module _ (form : Form) where
     abbrev pub OwnParts : List ℕ → Refusal → Type 0
     OwnParts key r = AtHeader Proof 2 (header_fault (rules_of form).name b) key r ⊎ (AtLine read own_entries (body b) key r ⊎ AtEnd read OwnLast (body b) key r)
 
-    pub own_parts : (key : List ℕ) (r : Refusal) → IsOwnFault form b key r → OwnParts key r
+    pub own_parts : (key : Key) (r : Refusal) → IsOwnFault form b key r → OwnParts (rank key) r
     own_parts _ _ (faults.header number rule e) = inl (refl, ((number, rule), e, refl))
     own_parts _ _ (faults.broken_line k line rule at stops v) = inr (inl (record {
       place = k;
@@ -151,25 +153,22 @@ module _ (form : Form) where
         }))
     own_parts _ _ (faults.unfinished whole busy) = inr (inr (record { whole = whole; last = (refl, busy, refl) }))
 
-    own_moved : (key other : List ℕ) (r s : Refusal) → key ≡ other → r ≡ s → IsOwnFault form b other s → IsOwnFault form b key r
-    own_moved key other r s e f h = subst (λ z. IsOwnFault form b z r) (sym e) (subst (λ z. IsOwnFault form b other z) (sym f) h)
-
     pub own_at_line : (k : ℕ) (key : List ℕ) (line : Line) (r : Refusal) → k ≤ length known → slice_get (body b) k ≡ Some line → (o : Result (StepOf form) Rule) → value_of read line ≡ o
-        → Contains (own_line (take k known) line.number o) (key, r) → IsOwnFault form b (3 ∷ k ∷ key) r
+        → Contains (own_line (take k known) line.number o) (key, r) → Ranked (IsOwnFault form b) (3 ∷ k ∷ key) r
     own_at_line k key line r h at (Err rule) v m = let is = only_one (1 ∷ [], refusal Proof line.number rule) (key, r) m in
-        own_moved _ _ _ _ (ap (λ z. 3 ∷ k ∷ z) is.0) is.1 (faults.broken_line k line rule at (said_stops read (body b) k line rule h at v) v)
+        ranked (IsOwnFault form b) _ (keys.line_spelling k) _ _ (ap (λ z. 3 ∷ k ∷ z) is.0) is.1 (faults.broken_line k line rule at (said_stops read (body b) k line rule h at v) v)
     own_at_line k key line r h at (Ok p) v m = let is = keyed_at Proof line.number _ (key, r) m in
-        own_moved _ _ _ _ (ap (λ z. 3 ∷ k ∷ z) is.2) is.3 (faults.own_rule k line is.0 at (record { step = p; is_step = said_next read (body b) k line p h at v; breaks = is.1 }))
+        ranked (IsOwnFault form b) _ (keys.own_rule k (rule_number is.0)) _ _ (ap (λ z. 3 ∷ k ∷ z) is.2) is.3 (faults.own_rule k line is.0 at (record { step = p; is_step = said_next read (body b) k line p h at v; breaks = is.1 }))
 
-    pub own_header_from : (key : List ℕ) (r : Refusal) → AtHeader Proof 2 (header_fault (rules_of form).name b) key r → IsOwnFault form b key r
-    own_header_from key r h = own_moved _ _ _ _ h.0 h.1.2 (faults.header h.1.0.0 h.1.0.1 h.1.1)
+    pub own_header_from : (key : List ℕ) (r : Refusal) → AtHeader Proof 2 (header_fault (rules_of form).name b) key r → Ranked (IsOwnFault form b) key r
+    own_header_from key r h = ranked (IsOwnFault form b) _ keys.proof_header _ _ h.0 h.1.2 (faults.header h.1.0.0 h.1.0.1 h.1.1)
 
-    pub own_end_from : (key : List ℕ) (r : Refusal) → length known ≡ length (body b) → OwnLast key r → IsOwnFault form b key r
-    own_end_from key r whole h = own_moved _ _ _ _ h.0 h.2 (faults.unfinished whole h.1)
+    pub own_end_from : (key : List ℕ) (r : Refusal) → length known ≡ length (body b) → OwnLast key r → Ranked (IsOwnFault form b) key r
+    own_end_from key r whole h = ranked (IsOwnFault form b) _ keys.open_query _ _ h.0 h.2 (faults.unfinished whole h.1)
 
-    own_from : (key : List ℕ) (r : Refusal) → OwnParts key r → IsOwnFault form b key r
+    own_from : (key : List ℕ) (r : Refusal) → OwnParts key r → Ranked (IsOwnFault form b) key r
     own_from key r (inl h) = own_header_from key r h
-    own_from key r (inr (inl f)) = subst (λ z. IsOwnFault form b z r) (sym f.is_key) (own_at_line f.place f.rest f.line r f.within f.is_line (value_of read f.line) refl f.member)
+    own_from key r (inr (inl f)) = subst (λ z. Ranked (IsOwnFault form b) z r) (sym f.is_key) (own_at_line f.place f.rest f.line r f.within f.is_line (value_of read f.line) refl f.member)
     own_from key r (inr (inr f)) = own_end_from key r f.whole f.last
 
     own_ok : (ps : List (StepOf form)) (line : Line) (more : List Line) (p : StepOf form) → value_of read line ≡ Ok p
@@ -198,9 +197,9 @@ module _ (form : Form) where
         (first_open (end_line b) (phase (events_among form known)))
 
     -- the first of a proof's own refusals is its first own fault
-    pub first_own : First (IsOwnFault form b) (own_refusals (rules_of form) b)
+    pub first_own : First (Ranked (IsOwnFault form b)) (own_refusals (rules_of form) b)
     unfolding own_refusals
-    first_own = first_same OwnParts (IsOwnFault form b) _ own_from own_parts
+    first_own = first_same OwnParts (Ranked (IsOwnFault form b)) _ own_from (λ key r f. subst (λ z. OwnParts z r) f.1 (own_parts f.0 r f.2))
         (first_join (AtHeader Proof 2 (header_fault (rules_of form).name b)) _ _ _
         (λ key other r s h g. header_before 2 key other (omega arith) h.0 (listed_key read own_entries (body b) own_ascend OwnLast own_last_key other s g))
         (first_header Proof 2 (header_fault (rules_of form).name b)) first_own_listed)

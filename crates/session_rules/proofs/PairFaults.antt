@@ -14,26 +14,28 @@ use Rattle.session_rules.specs.Reading.{value_of, icnf_line, header_fault}
 use Rattle.session_rules.specs.Numbers.{rule_number}
 use Rattle.session_rules.specs.History.{phase, assumed}
 use Rattle.session_rules.specs.Pair.{pair_faults, Refusal, refusal, refusals, partner_count, partner_rules, partner_faults, surplus, unfinished, step_partners, step_matches, faults_from, pair_refusals}
-use Rattle.session_rules.specs.Verdicts.{StepOf, rules_of, body, events_among, IsEventStep, partner, further_rule, IsFault, IsAtMost}
+use Rattle.session_rules.specs.Verdicts.{StepOf, rules_of, body, events_among, IsEventStep, partner, further_rule, IsOwnFault, IsFault}
+use Rattle.session_rules.specs.Keys.{Key, rank, IsAtMost}
+use Rattle.session_rules.specs.Keys as keys
 use Rattle.session_rules.specs.Verdicts as faults
 use Rattle.session_rules.proofs.Positions.{get_same, drop_next, drop_none, drop_rest, get_dropped, get_none, said, said_at, said_next}
 use Rattle.session_rules.proofs.Ascending.{before_first, KeysAscend, keys_append}
-use Rattle.session_rules.proofs.Listed.{First, first_same, first_join, AtLine, AtEnd, listed_unique, listed_key, first_listed}
+use Rattle.session_rules.proofs.Listed.{Ranked, ranked, First, first_same, first_join, AtLine, AtEnd, listed_unique, listed_key, first_listed}
 use Rattle.session_rules.proofs.RuleNumbers.{pair_ascends, own_rule_number, pair_rule_number}
 use Rattle.session_rules.proofs.OwnFaults.{keyed, keyed_refusals, keyed_at, keyed_from, keys_of_rules, only_one, keys_of_none, keys_of_one, AtHeader, first_header, header_unique, header_before, not_header, read, own_line, keys_of_own, first_open, OwnLast, own_parts, own_at_line, own_header_from, own_end_from, own_last_key}
 
 -- what a partner breaks
-abbrev pub partner_line : List ℕ → Event → ℕ → Result Event Rule → List (List ℕ × Refusal)
-partner_line qs e number (Err rule) = (20 ∷ [], refusal Interaction number rule) ∷ []
-partner_line qs e number (Ok f) = keyed Interaction number (pair_faults qs e f)
+abbrev pub partner_entries : List ℕ → Event → ℕ → Result Event Rule → List (List ℕ × Refusal)
+partner_entries qs e number (Err rule) = (20 ∷ [], refusal Interaction number rule) ∷ []
+partner_entries qs e number (Ok f) = keyed Interaction number (pair_faults qs e f)
 
 -- what a step's event, where it has one, breaks with its partner, the first of these lines
 abbrev pub match_line : List ℕ → ℕ → Option Event → List Line → List (List ℕ × Refusal)
 match_line qs number None ms = []
 match_line qs number (Some e) [] = (20 ∷ [], refusal Proof number rules.Ended) ∷ []
-match_line qs number (Some e) (m ∷ ms) = partner_line qs e m.number (value_of icnf_line m)
+match_line qs number (Some e) (m ∷ ms) = partner_entries qs e m.number (value_of icnf_line m)
 
-keys_of_partner : (qs : List ℕ) (e : Event) (number : ℕ) (o : Result Event Rule) → KeysAscend (partner_line qs e number o)
+keys_of_partner : (qs : List ℕ) (e : Event) (number : ℕ) (o : Result Event Rule) → KeysAscend (partner_entries qs e number o)
 keys_of_partner qs e number (Err rule) = keys_of_one _
 keys_of_partner qs e number (Ok f) = keys_of_rules Interaction number 20 26 _ (pair_ascends qs e f)
 
@@ -46,7 +48,7 @@ keys_of_match qs number (Some e) (m ∷ ms) = keys_of_partner qs e m.number (val
 abbrev Begins : List ℕ → Type 0
 Begins key = (n : ℕ) × (rest : List ℕ) × (19 < n) × (key ≡ n ∷ rest)
 
-partner_begins : (qs : List ℕ) (e : Event) (number : ℕ) (o : Result Event Rule) (f : List ℕ × Refusal) → Contains (partner_line qs e number o) f → Begins f.0
+partner_begins : (qs : List ℕ) (e : Event) (number : ℕ) (o : Result Event Rule) (f : List ℕ × Refusal) → Contains (partner_entries qs e number o) f → Begins f.0
 partner_begins qs e number (Err rule) f m = (20, [], omega arith, (only_one _ f m).0)
 partner_begins qs e number (Ok g) f m = let at = keyed_at Interaction number _ f m in (rule_number at.0, [], pair_rule_number qs e g at.0 at.1, at.2)
 
@@ -55,7 +57,7 @@ match_begins qs number None ms f m = absurd (not_in_nil f m)
 match_begins qs number (Some e) [] f m = (20, [], omega arith, (only_one _ f m).0)
 match_begins qs number (Some e) (x ∷ ms) f m = partner_begins qs e x.number (value_of icnf_line x) f m
 
-partner_refusals : (qs : List ℕ) (e : Event) (number : ℕ) (o : Result Event Rule) → map (λ z. z.1) (partner_line qs e number o) ≡ refusals Interaction number (partner_rules qs e o)
+partner_refusals : (qs : List ℕ) (e : Event) (number : ℕ) (o : Result Event Rule) → map (λ z. z.1) (partner_entries qs e number o) ≡ refusals Interaction number (partner_rules qs e o)
 partner_refusals qs e number (Err rule) = refl
 partner_refusals qs e number (Ok f) = keyed_refusals Interaction number _
 
@@ -157,11 +159,11 @@ module _ (form : Form) where
         })
 
     with_first : (k : ℕ) (e : Event) (step : IsEventStep form spelt k e) (n : List ℕ) (r : Refusal) (m : Line) → partner form a spelt k ≡ Some m
-        → Contains (partner_line (assumed (events_among form (take k spelt))) e m.number (value_of icnf_line m)) (n, r) → PairListed (3 ∷ k ∷ n) r
+        → Contains (partner_entries (assumed (events_among form (take k spelt))) e m.number (value_of icnf_line m)) (n, r) → PairListed (3 ∷ k ∷ n) r
     with_first k e step n r m is h = let there_is = said_at (read form) (body b) k step.step step.is_step in
         with_partner k e step n (λ line. r) (λ line. subst (λ ms. Contains (match_line (assumed (events_among form (take k spelt))) line.number (Some e) ms) (n, r)) (sym (drop_next (body a) _ m is)) h) there_is.0 there_is.1
 
-    pub pair_parts : (key : List ℕ) (r : Refusal) → IsFault form a b key r → PairParts key r
+    pub pair_parts : (key : Key) (r : Refusal) → IsFault form a b key r → PairParts (rank key) r
     pair_parts _ _ (faults.interaction_header number rule e) = inl (inl (refl, ((number, rule), e, refl)))
     pair_parts _ _ (faults.own key r f) = elim (own_parts form b key r f) [
       | inl h ↦ inl (inr h)
@@ -179,44 +181,45 @@ module _ (form : Form) where
     pair_parts _ _ (faults.ended k line e at step none) = inr (with_partner k e step (20 ∷ []) (λ l. refusal Proof l.number rules.Ended)
         (λ l. subst (λ ms. Contains (match_line (assumed (events_among form (take k spelt))) l.number (Some e) ms) (20 ∷ [], refusal Proof l.number rules.Ended)) (sym (drop_none (body a) _ none)) (here _ [])) line at)
     pair_parts _ _ (faults.partner_broken k e m rule step is v) = inr (with_first k e step (20 ∷ []) (refusal Interaction m.number rule) m is
-        (subst (λ o. Contains (partner_line (assumed (events_among form (take k spelt))) e m.number o) (20 ∷ [], refusal Interaction m.number rule)) (sym v) (here _ [])))
+        (subst (λ o. Contains (partner_entries (assumed (events_among form (take k spelt))) e m.number o) (20 ∷ [], refusal Interaction m.number rule)) (sym v) (here _ [])))
     pair_parts _ _ (faults.pair_rule k m rule f) = inr (with_first k f.event f.is_event_step (rule_number rule ∷ []) (refusal Interaction m.number rule) m f.is_partner
-        (subst (λ o. Contains (partner_line (assumed (events_among form (take k spelt))) f.event m.number o) (rule_number rule ∷ [], refusal Interaction m.number rule)) (sym f.is_said) (keyed_from Interaction m.number _ rule f.breaks)))
+        (subst (λ o. Contains (partner_entries (assumed (events_among form (take k spelt))) f.event m.number o) (rule_number rule ∷ [], refusal Interaction m.number rule)) (sym f.is_said) (keyed_from Interaction m.number _ rule f.breaks)))
     pair_parts _ _ (faults.surplus line whole at) = inr (inr (record { whole = whole; last = inr (refl, (line, at, refl)) }))
 
-    moved : (key other : List ℕ) (r s : Refusal) → key ≡ other → r ≡ s → IsFault form a b other s → IsFault form a b key r
-    moved key other r s e f h = subst (λ z. IsFault form a b z r) (sym e) (subst (λ z. IsFault form a b other z) (sym f) h)
+    -- a fault of the proof by itself is one of the pair
+    own_in : (key : List ℕ) (r : Refusal) → Ranked (IsOwnFault form b) key r → Ranked (IsFault form a b) key r
+    own_in key r f = (f.0, f.1, faults.own f.0 r f.2)
 
     at_partner : (k : ℕ) (n : List ℕ) (r : Refusal) (e : Event) → IsEventStep form spelt k e → (m : Line) → partner form a spelt k ≡ Some m → (o : Result Event Rule) → value_of icnf_line m ≡ o
-        → Contains (partner_line (assumed (events_among form (take k spelt))) e m.number o) (n, r) → IsFault form a b (3 ∷ k ∷ n) r
+        → Contains (partner_entries (assumed (events_among form (take k spelt))) e m.number o) (n, r) → Ranked (IsFault form a b) (3 ∷ k ∷ n) r
     at_partner k n r e step m is (Err rule) v h = let only = only_one (20 ∷ [], refusal Interaction m.number rule) (n, r) h in
-        moved _ _ _ _ (ap (λ z. 3 ∷ k ∷ z) only.0) only.1 (faults.partner_broken k e m rule step is v)
+        ranked (IsFault form a b) _ (keys.partner k) _ _ (ap (λ z. 3 ∷ k ∷ z) only.0) only.1 (faults.partner_broken k e m rule step is v)
     at_partner k n r e step m is (Ok f) v h = let rule = keyed_at Interaction m.number _ (n, r) h in
-        moved _ _ _ _ (ap (λ z. 3 ∷ k ∷ z) rule.2) rule.3
+        ranked (IsFault form a b) _ (keys.pair_rule k (rule_number rule.0)) _ _ (ap (λ z. 3 ∷ k ∷ z) rule.2) rule.3
         (faults.pair_rule k m rule.0 (record { event = e; is_event_step = step; is_partner = is; said = f; is_said = v; breaks = rule.1 }))
 
     at_match : (k : ℕ) (n : List ℕ) (r : Refusal) (line : Line) → slice_get (body b) k ≡ Some line → (p : StepOf form) → slice_get spelt k ≡ Some p → (o : Option Event) → (rules_of form).event p ≡ o
-        → (ms : List Line) → behind (take k spelt) ≡ ms → Contains (match_line (assumed (events_among form (take k spelt))) line.number o ms) (n, r) → IsFault form a b (3 ∷ k ∷ n) r
+        → (ms : List Line) → behind (take k spelt) ≡ ms → Contains (match_line (assumed (events_among form (take k spelt))) line.number o ms) (n, r) → Ranked (IsFault form a b) (3 ∷ k ∷ n) r
     at_match k n r line at p is None x ms d h = absurd (not_in_nil (n, r) h)
     at_match k n r line at p is (Some e) x [] d h = let only = only_one (20 ∷ [], refusal Proof line.number rules.Ended) (n, r) h in
-        moved _ _ _ _ (ap (λ z. 3 ∷ k ∷ z) only.0) only.1 (faults.ended k line e at (record { step = p; is_step = is; is_event = x }) (get_none (body a) _ d))
+        ranked (IsFault form a b) _ (keys.partner k) _ _ (ap (λ z. 3 ∷ k ∷ z) only.0) only.1 (faults.ended k line e at (record { step = p; is_step = is; is_event = x }) (get_none (body a) _ d))
     at_match k n r line at p is (Some e) x (m ∷ ms) d h = at_partner k n r e (record { step = p; is_step = is; is_event = x }) m (get_dropped (body a) _ m ms d).0 (value_of icnf_line m) refl h
 
     pair_at_line : (k : ℕ) (n : List ℕ) (line : Line) (r : Refusal) → k ≤ length spelt → slice_get (body b) k ≡ Some line → (o : Result (StepOf form) Rule) → value_of (read form) line ≡ o
-        → Contains (pair_line (take k spelt) line.number o (behind (take k spelt))) (n, r) → IsFault form a b (3 ∷ k ∷ n) r
-    pair_at_line k n line r h at (Err rule) v m = faults.own _ _ (own_at_line form b k n line r h at (Err rule) v m)
+        → Contains (pair_line (take k spelt) line.number o (behind (take k spelt))) (n, r) → Ranked (IsFault form a b) (3 ∷ k ∷ n) r
+    pair_at_line k n line r h at (Err rule) v m = own_in _ _ (own_at_line form b k n line r h at (Err rule) v m)
     pair_at_line k n line r h at (Ok p) v m = elim (Contains-append_cases _ _ (n, r) m) [
-      | inl left ↦ faults.own _ _ (own_at_line form b k n line r h at (Ok p) v left)
+      | inl left ↦ own_in _ _ (own_at_line form b k n line r h at (Ok p) v left)
       | inr right ↦ at_match k n r line at p (said_next (read form) (body b) k line p h at v) ((rules_of form).event p) refl (behind (take k spelt)) refl right
     ]
 
-    pair_from : (key : List ℕ) (r : Refusal) → PairParts key r → IsFault form a b key r
-    pair_from key r (inl (inl h)) = moved _ _ _ _ h.0 h.1.2 (faults.interaction_header h.1.0.0 h.1.0.1 h.1.1)
-    pair_from key r (inl (inr h)) = faults.own _ _ (own_header_from form b key r h)
-    pair_from key r (inr (inl f)) = subst (λ z. IsFault form a b z r) (sym f.is_key) (pair_at_line f.place f.rest f.line r f.within f.is_line (value_of (read form) f.line) refl f.member)
+    pair_from : (key : List ℕ) (r : Refusal) → PairParts key r → Ranked (IsFault form a b) key r
+    pair_from key r (inl (inl h)) = ranked (IsFault form a b) _ keys.interaction_header _ _ h.0 h.1.2 (faults.interaction_header h.1.0.0 h.1.0.1 h.1.1)
+    pair_from key r (inl (inr h)) = own_in _ _ (own_header_from form b key r h)
+    pair_from key r (inr (inl f)) = subst (λ z. Ranked (IsFault form a b) z r) (sym f.is_key) (pair_at_line f.place f.rest f.line r f.within f.is_line (value_of (read form) f.line) refl f.member)
     pair_from key r (inr (inr f)) = elim f.last [
-      | inl h ↦ faults.own _ _ (own_end_from form b key r f.whole h)
-      | inr h ↦ moved _ _ _ _ h.0 h.1.2 (faults.surplus h.1.0 f.whole h.1.1)
+      | inl h ↦ own_in _ _ (own_end_from form b key r f.whole h)
+      | inr h ↦ ranked (IsFault form a b) _ keys.further_line _ _ h.0 h.1.2 (faults.surplus h.1.0 f.whole h.1.1)
     ]
 
     pair_ok : (ps : List (StepOf form)) (line : Line) (more : List Line) (p : StepOf form) → value_of (read form) line ≡ Ok p
@@ -265,9 +268,9 @@ module _ (form : Form) where
     headers_before key other r s (inr h) g = header_before 2 key other (omega arith) h.0 (pair_key other s g)
 
     -- the first of a pair's refusals is its first fault
-    pub first_pair : First (IsFault form a b) (pair_refusals (rules_of form) a b)
+    pub first_pair : First (Ranked (IsFault form a b)) (pair_refusals (rules_of form) a b)
     unfolding pair_refusals
-    first_pair = first_same PairParts (IsFault form a b) _ pair_from pair_parts
+    first_pair = first_same PairParts (Ranked (IsFault form a b)) _ pair_from (λ key r f. subst (λ z. PairParts z r) f.1 (pair_parts f.0 r f.2))
         (first_join Headers PairListed _ _ headers_before
         (first_join (AtHeader Interaction 1 (header_fault (codes "icnf") a)) (AtHeader Proof 2 (header_fault (rules_of form).name b)) _ _ headers_ordered
         (first_header Interaction 1 (header_fault (codes "icnf") a)) (first_header Proof 2 (header_fault (rules_of form).name b)))

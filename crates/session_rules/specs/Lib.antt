@@ -9,3 +9,4 @@ pub mod Pair
 pub mod Verdicts
 pub mod Numbers
 pub mod Telling
+pub mod Keys

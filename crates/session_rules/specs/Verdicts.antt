@@ -1,7 +1,6 @@
--- The faults of a pair in plain words. Each fault has a key, and the verdict is the fault with the least key; likewise the
--- verdict on a proof by itself. Keys begin with 1 and 2 for the headers, 3 for a line of the proof, 4 for an open query and 5
--- for a further line; behind a 3 stand the line's place and then 1 for its spelling, the number of a rule, or 20 for a partner
--- that is missing or broken. Places are counted by how many lines, steps or events stand before.
+-- The faults of a pair in plain words. Each fault has a key, which says where it stands in the order in which faults count, and the
+-- verdict is the fault with the least key; likewise the verdict on a proof by itself. Places are counted by how many lines, steps
+-- or events stand before.
 use Rattle.std.specs.Prelude.{◌≡◌, ℕ, ◌<◌, ◌⊎◌, not, ◌&&◌, if◌then◌else◌, List, [], ◌∷◌, length, map, take, drop, count_by, Contains, slice_get, Option, Some, None, filter_map, Result, Ok, Err, codes}
 use Rattle.session_rules.specs.declared.Form.{Form}
 use Rattle.session_rules.specs.declared.Form.TheVariants.{Idrup, Lidrup}
@@ -17,6 +16,8 @@ use Rattle.session_rules.specs.declared.Verdict.TheVariants.{Accepted, Refused}
 use Rattle.session_rules.specs.Lines.{Line, lines, end_line, has_content}
 use Rattle.session_rules.specs.Reading.{Fault, value_of, icnf_line, header_fault, steps_of}
 use Rattle.session_rules.specs.Numbers.{rule_number}
+use Rattle.session_rules.specs.Keys.{Key, rank, IsAtMost, ComesUpTo}
+use Rattle.session_rules.specs.Keys as keys
 use Rattle.session_rules.specs.History.{phase, assumed}
 use Rattle.session_rules.specs.Pair.{ProofForm, without_ids, with_ids, pair_faults, Refusal, refusal, own_refusals, is_query, verdict}
 use Rattle.session_rules.specs.Spelling.{numbered_values}
@@ -60,18 +61,18 @@ pub record OwnFault (form : Form) (ps : List (StepOf form)) (k : ℕ) (rule : Ru
   pub breaks : Contains ((rules_of form).faults (take k ps) step) rule
 
 -- the faults of a proof that need no interaction, each with its key
-pub data IsOwnFault (form : Form) (b : List ℕ) : List ℕ → Refusal → Type 0 where
+pub data IsOwnFault (form : Form) (b : List ℕ) : Key → Refusal → Type 0 where
   -- its header is broken
-  header : (number : ℕ) (rule : Rule) → header_fault (rules_of form).name b ≡ Some (number, rule) → IsOwnFault form b (2 ∷ []) (refusal Proof number rule)
+  header : (number : ℕ) (rule : Rule) → header_fault (rules_of form).name b ≡ Some (number, rule) → IsOwnFault form b keys.proof_header (refusal Proof number rule)
   -- the line behind k lines that say steps is broken
   broken_line : (k : ℕ) (line : Line) (rule : Rule) → slice_get (body b) k ≡ Some line → length (steps_in form b) ≡ k → value_of (rules_of form).read line ≡ Err rule
-      → IsOwnFault form b (3 ∷ k ∷ 1 ∷ []) (refusal Proof line.number rule)
+      → IsOwnFault form b (keys.line_spelling k) (refusal Proof line.number rule)
   -- step k, on its line, breaks a rule of its own
   own_rule : (k : ℕ) (line : Line) (rule : Rule) → slice_get (body b) k ≡ Some line → OwnFault form (steps_in form b) k rule
-      → IsOwnFault form b (3 ∷ k ∷ rule_number rule ∷ []) (refusal Proof line.number rule)
+      → IsOwnFault form b (keys.own_rule k (rule_number rule)) (refusal Proof line.number rule)
   -- all lines say steps, and a query is open
   unfinished : length (steps_in form b) ≡ length (body b) → (phase (events_among form (steps_in form b)) ≡ Idle → ⊥)
-      → IsOwnFault form b (4 ∷ []) (refusal Proof (end_line b) rules.Unfinished)
+      → IsOwnFault form b keys.open_query (refusal Proof (end_line b) rules.Unfinished)
 
 -- ---- Faults of a pair
 
@@ -99,40 +100,37 @@ abbrev pub further_rule : Line → Rule
 further_rule line = if line.cut && not (has_content line.words) then rules.Length else rules.Surplus
 
 -- the faults of an interaction and a proof, each with its key
-pub data IsFault (form : Form) (a b : List ℕ) : List ℕ → Refusal → Type 0 where
+pub data IsFault (form : Form) (a b : List ℕ) : Key → Refusal → Type 0 where
   -- the interaction's header is broken
-  interaction_header : (number : ℕ) (rule : Rule) → header_fault (codes "icnf") a ≡ Some (number, rule) → IsFault form a b (1 ∷ []) (refusal Interaction number rule)
+  interaction_header : (number : ℕ) (rule : Rule) → header_fault (codes "icnf") a ≡ Some (number, rule) → IsFault form a b keys.interaction_header (refusal Interaction number rule)
   -- the proof has a fault by itself
-  own : (key : List ℕ) (r : Refusal) → IsOwnFault form b key r → IsFault form a b key r
+  own : (key : Key) (r : Refusal) → IsOwnFault form b key r → IsFault form a b key r
   -- step k is an event that has no partner
   ended : (k : ℕ) (line : Line) (event : Event) → slice_get (body b) k ≡ Some line → IsEventStep form (steps_in form b) k event → partner form a (steps_in form b) k ≡ None
-      → IsFault form a b (3 ∷ k ∷ 20 ∷ []) (refusal Proof line.number rules.Ended)
+      → IsFault form a b (keys.partner k) (refusal Proof line.number rules.Ended)
   -- its partner is broken
   partner_broken : (k : ℕ) (event : Event) (line : Line) (rule : Rule) → IsEventStep form (steps_in form b) k event → partner form a (steps_in form b) k ≡ Some line
-      → value_of icnf_line line ≡ Err rule → IsFault form a b (3 ∷ k ∷ 20 ∷ []) (refusal Interaction line.number rule)
+      → value_of icnf_line line ≡ Err rule → IsFault form a b (keys.partner k) (refusal Interaction line.number rule)
   -- it breaks a rule with its partner
-  pair_rule : (k : ℕ) (line : Line) (rule : Rule) → PairFault form a (steps_in form b) k line rule → IsFault form a b (3 ∷ k ∷ rule_number rule ∷ []) (refusal Interaction line.number rule)
+  pair_rule : (k : ℕ) (line : Line) (rule : Rule) → PairFault form a (steps_in form b) k line rule → IsFault form a b (keys.pair_rule k (rule_number rule)) (refusal Interaction line.number rule)
   -- all lines of the proof say steps, and the interaction has a line behind the partners of all events
   surplus : (line : Line) → length (steps_in form b) ≡ length (body b) → slice_get (body a) (length (events_among form (steps_in form b))) ≡ Some line
-      → IsFault form a b (5 ∷ []) (refusal Interaction line.number (further_rule line))
+      → IsFault form a b keys.further_line (refusal Interaction line.number (further_rule line))
 
 -- ---- The verdict
 
--- keys in the order of a dictionary: at the first place where they differ the number is less, or the key has ended
-abbrev pub IsAtMost : List ℕ → List ℕ → Type 0
-IsAtMost [] ms = Unit {0}
-IsAtMost (n ∷ ns) [] = ⊥
-IsAtMost (n ∷ ns) (m ∷ ms) = (n < m) ⊎ ((n ≡ m) × IsAtMost ns ms)
-
--- this is a fault, and no fault has a lesser key
-pub record IsFirst (Faults : List ℕ → Refusal → Type 0) (r : Refusal) : Type 0 where
-  pub key : List ℕ
+-- this is a fault, and no fault has a lesser key; keys are ordered by their numbers
+pub record IsFirstBy {K : Type 0} (numbers : K → List ℕ) (Faults : K → Refusal → Type 0) (r : Refusal) : Type 0 where
+  pub key : K
   pub is_fault : Faults key r
-  pub is_least : (other : List ℕ) (s : Refusal) → Faults other s → IsAtMost key other
+  pub is_least : (other : K) (s : Refusal) → Faults other s → IsAtMost (numbers key) (numbers other)
+
+abbrev pub IsFirst : (Key → Refusal → Type 0) → Refusal → Type 0
+IsFirst Faults r = IsFirstBy rank Faults r
 
 -- there is no fault
-abbrev pub HasNone : (List ℕ → Refusal → Type 0) → Type 0
-HasNone Faults = (key : List ℕ) (r : Refusal) → Faults key r → ⊥
+abbrev pub HasNone : {K : Type 0} → (K → Refusal → Type 0) → Type 0
+HasNone {K} Faults = (key : K) (r : Refusal) → Faults key r → ⊥
 
 -- the verdict on a pair: its first fault, or the number of the proof's queries where there is none
 abbrev pub IsVerdict : Form → List ℕ → List ℕ → Verdict → Type 0
@@ -144,12 +142,12 @@ abbrev pub IsOwnVerdict : Form → List ℕ → Option (ℕ × Rule) → Type 0
 IsOwnVerdict form b None = HasNone (IsOwnFault form b)
 IsOwnVerdict form b (Some fault) = IsFirst (IsOwnFault form b) (refusal Proof fault.0 fault.1)
 
--- the verdict is a fault with this key or a lesser one
-pub record RefusedUpTo (form : Form) (a b key : List ℕ) : Type 0 where
-  pub first : List ℕ
+-- the verdict is a fault whose key comes up to this one
+pub record RefusedUpTo (form : Form) (a b : List ℕ) (key : Key) : Type 0 where
+  pub first : Key
   pub refusal : Refusal
   pub is_fault : IsFault form a b first refusal
-  pub is_at_most : IsAtMost first key
+  pub is_at_most : ComesUpTo first key
   pub is_verdict : verdict form a b ≡ Refused refusal.side refusal.line refusal.rule
 
 -- the first of a proof's own refusals, by its line and rule
