@@ -7,7 +7,7 @@ use Rattle.lits.specs.Literal.{var, positive, neg}
 use Rattle.session_rules.specs.Logic.{has, is_tautology, satisfies, satisfies_clause, satisfies_formula}
 use Rattle.lits.proofs.Members.{here, there, not_in_nil, here_or_there, all_at, all_from, any_at, any_from, filter_from, filter_at, has_at, has_from}
 use Rattle.lits.proofs.Literal.{var-neg}
-use Rattle.restore.specs.Resolution.{of_variable, is_plain, is_negated, mentions, holds, holds_negated, without, resolvent, Entails}
+use Rattle.restore.specs.Resolution.{of_variable, is_plain, is_negated, has_variable, holds, holds_negated, without, resolvent, Entails}
 use Rattle.restore.specs.declared.lists.Elim.{Elim}
 use Rattle.restore.specs.Stack.{clauses_of, stacked, IsKeptBy, KeepsResolvents, with_value, needs, extended, has_entry}
 
@@ -37,7 +37,7 @@ none_from p xs h = elim (cases_Bool (list_any p xs)) [
 -- ---- Literals of a variable
 
 -- a clause with the variable holds it or its negation
-pub negated_unless_held : (x : ℕ) (c : List ℕ) → mentions x c ≡ true → holds x c ≡ false → holds_negated x c ≡ true
+pub negated_unless_held : (x : ℕ) (c : List ℕ) → has_variable x c ≡ true → holds x c ≡ false → holds_negated x c ≡ true
 negated_unless_held x c m h = let l = any_at (of_variable x) c m in
     let p : positive l.0 ≡ false = elim (cases_Bool (positive l.0)) [
       | inl q ↦ absurd (both_ways _ (none_at (is_plain x) c l.0 h l.1) (and_from _ _ l.2 q))
@@ -50,7 +50,7 @@ pub other_kept : (v : ℕ → Bool) (x : ℕ) (b : Bool) (l : ℕ) → of_variab
 other_kept v x b l h = rw h refl
 
 -- a clause without the variable too
-pub unmentioned_kept : (v : ℕ → Bool) (x : ℕ) (b : Bool) (c : List ℕ) → mentions x c ≡ false → satisfies_clause v c ≡ true → satisfies_clause (with_value v x b) c ≡ true
+pub unmentioned_kept : (v : ℕ → Bool) (x : ℕ) (b : Bool) (c : List ℕ) → has_variable x c ≡ false → satisfies_clause v c ≡ true → satisfies_clause (with_value v x b) c ≡ true
 unmentioned_kept v x b c h s = let l = any_at (satisfies v) c s in
     any_from (satisfies (with_value v x b)) c l.0 l.1 (other_kept v x b l.0 (none_at (of_variable x) c l.0 h l.1) ∙ l.2)
 

@@ -5,9 +5,10 @@ use Rattle.std.proofs.lemmas.Bool.{and_parts, and_from, or_cases, or_parts, or_l
 use Rattle.lits.specs.Literal.{var, positive, neg}
 use Rattle.session_rules.specs.Logic.{has, is_part, same_set, is_tautology, satisfies, satisfies_clause, satisfies_formula}
 use Rattle.lits.proofs.Members.{here, there, not_in_nil, here_or_there, all_at, all_from, any_at, any_from, filter_from, filter_at, has_at, has_from}
-use Rattle.restore.specs.Resolution.{of_variable, is_plain, is_negated, mentions, holds, holds_negated, without, resolvent, resolvents, resolvents_with, all_variables, variables, Entails}
+use Rattle.restore.specs.Resolution.{of_variable, is_plain, is_negated, has_variable, holds, holds_negated, without, resolvent, resolvents, resolvents_with, all_variables, variables, Entails}
 use Rattle.restore.specs.declared.lists.Elim.{Elim}
-use Rattle.restore.specs.Stack.{clauses_of, stacked, IsKeptBy, KeepsResolvents, taken, left_in, IsClosed, IsEntryOf, Eliminates, has_set, are_resolvents, behind_elimination}
+use Rattle.restore.specs.Stack.{clauses_of, stacked, IsKeptBy, KeepsResolvents, taken, left_in, IsClosed, IsEntryOf, Eliminates, has_set, differ, due_resolvents, are_due, behind_elimination}
+use Rattle.lits.proofs.Sets.{same_set-flip, same_set-chain}
 use Rattle.restore.proofs.Joined.{append_at, append_left, append_right, map_at, map_from, flat_at, flat_from}
 use Rattle.restore.proofs.Extending.{none_at, none_from}
 
@@ -27,7 +28,7 @@ pub stacked_from : (es : List Elim) (e : Elim) (c : List ℕ) → Contains es e 
 stacked_from es e c m n = flat_from clauses_of es e c m n
 
 -- more clauses behind an entry, none with its variable
-KeptBy-among : (e : Elim) (cs ds : List (List ℕ)) → IsKeptBy e cs → Among cs ds → ((c : List ℕ) → Contains ds c → mentions e.var c ≡ false) → IsKeptBy e ds
+KeptBy-among : (e : Elim) (cs ds : List (List ℕ)) → IsKeptBy e cs → Among cs ds → ((c : List ℕ) → Contains ds c → has_variable e.var c ≡ false) → IsKeptBy e ds
 KeptBy-among e cs ds k a h = record {
   holding = k.holding;
   apart = h;
@@ -35,16 +36,16 @@ KeptBy-among e cs ds k a h = record {
 }
 
 -- no variable of an entry is in an irredundant clause
-pub Kept-apart : (es : List Elim) (cs : List (List ℕ)) → KeepsResolvents es cs → (e : Elim) (c : List ℕ) → Contains es e → Contains cs c → mentions e.var c ≡ false
+pub Kept-apart : (es : List Elim) (cs : List (List ℕ)) → KeepsResolvents es cs → (e : Elim) (c : List ℕ) → Contains es e → Contains cs c → has_variable e.var c ≡ false
 Kept-apart [] cs k e c m n = absurd (not_in_nil e m)
 Kept-apart (f ∷ es) cs k e c m n = elim (here_or_there f e es m) [
-  | inl q ↦ subst (λ (z : Elim). mentions z.var c ≡ false) q (k.0.apart c (append_right (stacked es) cs c n))
+  | inl q ↦ subst (λ (z : Elim). has_variable z.var c ≡ false) q (k.0.apart c (append_right (stacked es) cs c n))
   | inr q ↦ Kept-apart es cs k.1 e c q n
 ]
 
 -- more irredundant clauses, none with a variable of the stack
 pub Kept-more : (es : List Elim) (cs ds : List (List ℕ)) → KeepsResolvents es cs → Among cs ds
-    → ((e : Elim) (c : List ℕ) → Contains es e → Contains ds c → mentions e.var c ≡ false) → KeepsResolvents es ds
+    → ((e : Elim) (c : List ℕ) → Contains es e → Contains ds c → has_variable e.var c ≡ false) → KeepsResolvents es ds
 Kept-more [] cs ds k a h = tt
 Kept-more (e ∷ es) cs ds k a h = (
   KeptBy-among e (stacked es ++ cs) (stacked es ++ ds) k.0
@@ -57,7 +58,7 @@ Kept-more (e ∷ es) cs ds k a h = (
 
 -- the clauses before are the entry's or among those after
 before_or_after : (x : Elim) (cs ds : List (List ℕ)) → Eliminates x cs ds → (c : List ℕ) → Contains cs c → Contains (clauses_of x) c ⊎ Contains ds c
-before_or_after x cs ds r c m = elim (cases_Bool (mentions x.var c)) [
+before_or_after x cs ds r c m = elim (cases_Bool (has_variable x.var c)) [
   | inl q ↦ inl (r.entry.whole c m q)
   | inr q ↦ inr (r.others c m q)
 ]
@@ -85,7 +86,7 @@ Kept-push (e ∷ es) x cs ds k r = (
   KeptBy-among e (stacked es ++ cs) (stacked (es ++ x ∷ []) ++ ds) k.0 (among_pushed es x cs ds r)
       (λ c m. elim (append_at (stacked (es ++ x ∷ [])) ds c m) [
         | inl n ↦ at_entry c (stacked_at (es ++ x ∷ []) c n)
-        | inr n ↦ elim (cases_Bool (mentions e.var c)) [
+        | inr n ↦ elim (cases_Bool (has_variable e.var c)) [
           | inl q ↦ let d = r.old c e.var n q in absurd (both_ways _ (k.0.apart d.0 (append_right (stacked es) cs d.0 d.1)) d.2)
           | inr q ↦ q
         ]
@@ -93,7 +94,7 @@ Kept-push (e ∷ es) x cs ds k r = (
   Kept-push es x cs ds k.1 r,
 )
   where
-    at_entry : (c : List ℕ) → ((f : Elim) × Contains (es ++ x ∷ []) f × Contains (clauses_of f) c) → mentions e.var c ≡ false
+    at_entry : (c : List ℕ) → ((f : Elim) × Contains (es ++ x ∷ []) f × Contains (clauses_of f) c) → has_variable e.var c ≡ false
     at_entry c f = elim (append_at es (x ∷ []) f.0 f.1) [
       | inl n ↦ k.0.apart c (append_left (stacked es) cs c (stacked_from es f.0 c n f.2))
       | inr n ↦ elim (here_or_there x f.0 [] n) [
@@ -122,56 +123,101 @@ resolvents_at x cs r m = let c = flat_at (resolvents_with x cs) (filter (holds x
     (c.0, d.0, p.0, q.0, p.1, q.1, not-true _ t.1, d.2)
 
 -- a resolvent doesn't hold its variable
-pub resolvent_apart : (x : ℕ) (c d : List ℕ) → mentions x (resolvent x c d) ≡ false
+pub resolvent_apart : (x : ℕ) (c d : List ℕ) → has_variable x (resolvent x c d) ≡ false
 resolvent_apart x c d = none_from (of_variable x) (resolvent x c d) (λ l m. elim (append_at (without x c) (without x d) l m) [
   | inl n ↦ not-true _ (filter_at (λ l. not (of_variable x l)) c l n).1
   | inr n ↦ not-true _ (filter_at (λ l. not (of_variable x l)) d l n).1
 ])
 
 -- a variable of a resolvent is one of its clauses'
-resolvent_old : (x : ℕ) (c d : List ℕ) (y : ℕ) → mentions y (resolvent x c d) ≡ true → (mentions y c ≡ true) ⊎ (mentions y d ≡ true)
+resolvent_old : (x : ℕ) (c d : List ℕ) (y : ℕ) → has_variable y (resolvent x c d) ≡ true → (has_variable y c ≡ true) ⊎ (has_variable y d ≡ true)
 resolvent_old x c d y h = let l = any_at (of_variable y) (resolvent x c d) h in elim (append_at (without x c) (without x d) l.0 l.1) [
   | inl n ↦ inl (any_from (of_variable y) c l.0 (filter_at (λ l. not (of_variable x l)) c l.0 n).0 l.2)
   | inr n ↦ inr (any_from (of_variable y) d l.0 (filter_at (λ l. not (of_variable x l)) d l.0 n).0 l.2)
 ]
 
-part_mentions : (y : ℕ) (c d : List ℕ) → is_part c d ≡ true → mentions y c ≡ true → mentions y d ≡ true
+part_mentions : (y : ℕ) (c d : List ℕ) → is_part c d ≡ true → has_variable y c ≡ true → has_variable y d ≡ true
 part_mentions y c d p h = let l = any_at (of_variable y) c h in any_from (of_variable y) d l.0 (has_at d l.0 (all_at (has d) c l.0 p l.1)) l.2
 
 part_satisfied : (v : ℕ → Bool) (c d : List ℕ) → is_part c d ≡ true → satisfies_clause v c ≡ true → satisfies_clause v d ≡ true
 part_satisfied v c d p h = let l = any_at (satisfies v) c h in any_from (satisfies v) d l.0 (has_at d l.0 (all_at (has d) c l.0 p l.1)) l.2
 
+-- of clauses that differ none has the set of another
+differ_once : (before after : List (List ℕ)) (c : List ℕ) → differ (before ++ c ∷ after) ≡ true → has_set (before ++ after) c ≡ false
+differ_once [] after c h = not-true _ (and_parts _ _ h).0
+differ_once (b ∷ before) after c h =
+    let parts = and_parts _ _ h in
+    none_from (same_set c) (b ∷ before ++ after) (λ d m. elim (here_or_there b d (before ++ after) m) [
+      | inl q ↦ subst (λ z. same_set c z ≡ false) q (flipped (none_at (same_set b) (before ++ c ∷ after) c (not-true _ parts.0) (append_right before (c ∷ after) c (here c after))))
+      | inr n ↦ none_at (same_set c) (before ++ after) d (differ_once before after c parts.1) n
+    ])
+  where
+    flipped : same_set b c ≡ false → same_set c b ≡ false
+    flipped e = elim (cases_Bool (same_set c b)) [ inl q ↦ absurd (both_ways _ e (same_set-flip c b q)) | inr q ↦ q ]
+
+pub due_once : (x : ℕ) (cs before after : List (List ℕ)) (c : List ℕ) → are_due x cs (before ++ c ∷ after) ≡ true → has_set (before ++ after) c ≡ false
+due_once x cs before after c h = differ_once before after c (and_parts _ _ h).0
+
 -- an elimination that writes the resolvents that are due
-module _ (x : ℕ) (cs ls : List (List ℕ)) (h : are_resolvents x cs ls ≡ true) where
+module _ (x : ℕ) (cs ls : List (List ℕ)) (h : are_due x cs ls ≡ true) where
+  parts : (differ ls ≡ true) × (list_all (has_set (due_resolvents x cs)) ls ≡ true) × (list_all (has_set ls) (due_resolvents x cs) ≡ true)
+  parts = let outer = and_parts _ _ h in let inner = and_parts _ _ outer.1 in (outer.0, inner.0, inner.1)
+
   abbrev others_of : List (List ℕ)
-  others_of = filter (λ c. not (mentions x c)) cs
+  others_of = filter (λ c. not (has_variable x c)) cs
+
+  due_at : (c : List ℕ) → Contains ls c → (r : List ℕ) × Contains (due_resolvents x cs) r × (same_set c r ≡ true)
+  due_at c m = any_at (same_set c) (due_resolvents x cs) (all_at (has_set (due_resolvents x cs)) ls c parts.1 m)
 
   written_at : (c : List ℕ) → Contains ls c → (r : List ℕ) × Contains (resolvents x cs) r × (same_set c r ≡ true)
-  written_at c m = any_at (same_set c) (resolvents x cs) (all_at (has_set (resolvents x cs)) ls c (and_parts _ _ h).0 m)
+  written_at c m = let r = due_at c m in (r.0, (filter_at (λ r. not (has_set cs r)) (resolvents x cs) r.0 r.1).0, r.2)
 
-  written_gone : (c : List ℕ) → Contains ls c → mentions x c ≡ false
-  written_gone c m = elim (cases_Bool (mentions x c)) [
+  -- the written ones are resolvents, and none is an irredundant clause; each resolvent that is none is among them
+  pub due_resolvent : (c : List ℕ) → Contains ls c → has_set (resolvents x cs) c ≡ true
+  due_resolvent c m = let r = written_at c m in any_from (same_set c) (resolvents x cs) r.0 r.1 r.2
+
+  pub due_new : (c : List ℕ) → Contains ls c → has_set cs c ≡ false
+  due_new c m =
+      let r = due_at c m in
+      let none = not-true _ (filter_at (λ r. not (has_set cs r)) (resolvents x cs) r.0 r.1).1 in
+      none_from (same_set c) cs (λ d n. elim (cases_Bool (same_set c d)) [
+        | inl q ↦ absurd (both_ways _ (none_at (same_set r.0) cs d none n) (same_set-chain r.0 c d (same_set-flip c r.0 r.2) q))
+        | inr q ↦ q
+      ])
+
+  pub due_written : (r : List ℕ) → Contains (resolvents x cs) r → has_set cs r ≡ false → has_set ls r ≡ true
+  due_written r m n = all_at (has_set ls) (due_resolvents x cs) r parts.2 (filter_from (λ r. not (has_set cs r)) (resolvents x cs) r m (not_from_false _ n))
+
+  written_gone : (c : List ℕ) → Contains ls c → has_variable x c ≡ false
+  written_gone c m = elim (cases_Bool (has_variable x c)) [
     | inl q ↦ let r = written_at c m in let p = resolvents_at x cs r.0 r.1 in
-        let a : mentions x (resolvent x p.0 p.1) ≡ true = subst (λ z. mentions x z ≡ true) (sym p.7) (part_mentions x c r.0 (and_parts _ _ r.2).0 q) in
+        let a : has_variable x (resolvent x p.0 p.1) ≡ true = subst (λ z. has_variable x z ≡ true) (sym p.7) (part_mentions x c r.0 (and_parts _ _ r.2).0 q) in
         absurd (both_ways _ (resolvent_apart x p.0 p.1) a)
     | inr q ↦ q
   ]
 
-  written_old : (c : List ℕ) (y : ℕ) → Contains ls c → mentions y c ≡ true → (d : List ℕ) × Contains cs d × (mentions y d ≡ true)
+  written_old : (c : List ℕ) (y : ℕ) → Contains ls c → has_variable y c ≡ true → (d : List ℕ) × Contains cs d × (has_variable y d ≡ true)
   written_old c y m q = let r = written_at c m in let p = resolvents_at x cs r.0 r.1 in
-      let a : mentions y (resolvent x p.0 p.1) ≡ true = subst (λ z. mentions y z ≡ true) (sym p.7) (part_mentions y c r.0 (and_parts _ _ r.2).0 q) in
+      let a : has_variable y (resolvent x p.0 p.1) ≡ true = subst (λ z. has_variable y z ≡ true) (sym p.7) (part_mentions y c r.0 (and_parts _ _ r.2).0 q) in
       elim (resolvent_old x p.0 p.1 y a) [ inl b ↦ (p.0, p.2, b) | inr b ↦ (p.1, p.3, b) ]
 
-  not_gone : (c : List ℕ) → Contains (cs ++ ls) c → mentions x c ≡ false → Contains (behind_elimination x cs ls) c
+  not_gone : (c : List ℕ) → Contains (cs ++ ls) c → has_variable x c ≡ false → Contains (behind_elimination x cs ls) c
   not_gone c m q = elim (append_at cs ls c m) [
-    | inl n ↦ append_left others_of ls c (filter_from (λ c. not (mentions x c)) cs c n (not_from_false _ q))
+    | inl n ↦ append_left others_of ls c (filter_from (λ c. not (has_variable x c)) cs c n (not_from_false _ q))
     | inr n ↦ append_right others_of ls c n
   ]
 
-  resolvent_entailed : (r : List ℕ) → Contains (resolvents x cs) r → mentions x r ≡ false → Entails (behind_elimination x cs ls) r
-  resolvent_entailed r m a = let d = any_at (same_set r) (cs ++ ls) (all_at (has_set (cs ++ ls)) (resolvents x cs) r (and_parts _ _ h).1 m) in
+  -- each resolvent is among the irredundant clauses or the written ones
+  found_at : (r : List ℕ) → Contains (resolvents x cs) r → (d : List ℕ) × Contains (cs ++ ls) d × (same_set r d ≡ true)
+  found_at r m = elim (cases_Bool (has_set cs r)) [
+    | inl q ↦ let c = any_at (same_set r) cs q in (c.0, append_left cs ls c.0 c.1, c.2)
+    | inr q ↦ let c = any_at (same_set r) ls (due_written r m q) in (c.0, append_right cs ls c.0 c.1, c.2)
+  ]
+
+  resolvent_entailed : (r : List ℕ) → Contains (resolvents x cs) r → has_variable x r ≡ false → Entails (behind_elimination x cs ls) r
+  resolvent_entailed r m a = let d = found_at r m in
       let s = and_parts (is_part r d.0) (is_part d.0 r) d.2 in
-      let b : mentions x d.0 ≡ false = elim (cases_Bool (mentions x d.0)) [
+      let b : has_variable x d.0 ≡ false = elim (cases_Bool (has_variable x d.0)) [
         | inl q ↦ absurd (both_ways _ a (part_mentions x d.0 r s.1 q))
         | inr q ↦ q
       ] in
@@ -180,13 +226,13 @@ module _ (x : ℕ) (cs ls : List (List ℕ)) (h : are_resolvents x cs ls ≡ tru
   pub Eliminates-written : (e : Elim) → e.var ≡ x → IsEntryOf e cs → Eliminates e cs (behind_elimination x cs ls)
   Eliminates-written e is entry = record {
     entry = entry;
-    others = λ c m q. not_gone c (append_left cs ls c m) (subst (λ y. mentions y c ≡ false) is q);
-    gone = λ c m. subst (λ y. mentions y c ≡ false) (sym is) (elim (append_at others_of ls c m) [
-      | inl n ↦ not-true _ (filter_at (λ c. not (mentions x c)) cs c n).1
+    others = λ c m q. not_gone c (append_left cs ls c m) (subst (λ y. has_variable y c ≡ false) is q);
+    gone = λ c m. subst (λ y. has_variable y c ≡ false) (sym is) (elim (append_at others_of ls c m) [
+      | inl n ↦ not-true _ (filter_at (λ c. not (has_variable x c)) cs c n).1
       | inr n ↦ written_gone c n
     ]);
     old = λ c y m q. elim (append_at others_of ls c m) [
-      | inl n ↦ (c, (filter_at (λ c. not (mentions x c)) cs c n).0, q)
+      | inl n ↦ (c, (filter_at (λ c. not (has_variable x c)) cs c n).0, q)
       | inr n ↦ written_old c y n q
     ];
     resolved = λ c d m n p q t. subst (λ y. Entails (behind_elimination x cs ls) (resolvent y c d)) (sym is)
@@ -246,10 +292,10 @@ Kept-take s (e ∷ es) cs z k = let next = Kept-take s es cs (λ f g m n. z f g 
       rw q r
 ]
   where
-    outside : (f : Elim) (c : List ℕ) → Contains (left_in s es) f → Contains (clauses_of e) c → s e.var ≡ true → mentions f.var c ≡ false
-    outside f c m n q = elim (cases_Bool (mentions f.var c)) [
+    outside : (f : Elim) (c : List ℕ) → Contains (left_in s es) f → Contains (clauses_of e) c → s e.var ≡ true → has_variable f.var c ≡ false
+    outside f c m n q = elim (cases_Bool (has_variable f.var c)) [
       | inl i ↦ absurd (both_ways _ (not-true _ (filter_at (λ (e : Elim). not (s e.var)) es f m).1)
-          (z e f (here e es) (there e f es (filter_at (λ (e : Elim). not (s e.var)) es f m).0) q (any_from (mentions f.var) (clauses_of e) c n i)))
+          (z e f (here e es) (there e f es (filter_at (λ (e : Elim). not (s e.var)) es f m).0) q (any_from (has_variable f.var) (clauses_of e) c n i)))
       | inr i ↦ i
     ]
 

@@ -5,6 +5,8 @@ pub mod Taking
 pub mod Needing
 pub mod Indexing
 pub mod Steps
-pub mod Marking
+pub mod Choosing
 pub mod Splitting
 pub mod Unwanted
+pub mod Implied
+mod Examples

@@ -1,4 +1,4 @@
--- The table of places while entries are taken out, and the entries by their marks.
+-- The table of places while entries are taken out, and the entries by the choice.
 use Rattle.std.proofs.Common.{◌≡◌, ◌≢◌, ℕ, zero, suc, ◌+◌, ◌-◌, ◌<◌, ◌≤◌, ◌⊎◌, Bool, true, false, not, List, [], ◌∷◌, ◌++◌, length, map, filter, take, drop, get_or, refl, sym, ◌∙◌, ap, subst, inl, inr, arith, length-append}
 use Rattle.std.specs.Prelude.{slice_index, slice_set}
 use Rattle.std.proofs.Math.ListN.{set, length-set, get_or-append}
@@ -7,10 +7,10 @@ use Rattle.std.proofs.lemmas.Bool.{cases_Bool, both_ways}
 use Rattle.std.proofs.lemmas.List.{take_all, length-take-le}
 use Rattle.restore.specs.declared.lists.Elim.{Elim}
 use Rattle.restore.specs.Indexed.{variables_of, IsIndexed}
-use Rattle.restore.specs.Split.{with_mark, marked_count, IsSplit}
-use Rattle.restore.specs.Marks.{is_marked}
+use Rattle.restore.specs.Split.{with_choice, chosen_count, IsSplit}
+use Rattle.restore.specs.Choice.{is_chosen}
 use Rattle.restore.proofs.Indexing.{same_or_not, length-variables, variables-push}
-use Rattle.restore.proofs.Marking.{variable_at}
+use Rattle.restore.proofs.Choosing.{variable_at}
 
 within : (ps : List ℕ) (v : ℕ) → 0 < slice_index ps v → v < length ps
 within [] v h = absurd (omega arith)
@@ -90,11 +90,11 @@ split-leave front vs ps w k x n long lt ex en s =
       ];
     }
 
--- ---- The entries by their marks
+-- ---- The entries by the choice
 
--- the next entry has the mark, or another one
-pub more_same : (b : Bool) (ms : List Bool) (es : List Elim) (k : ℕ) (e : Elim) → k < length ms → k < length es → e ≡ get_or es k e → is_marked ms k ≡ b
-    → with_mark b (take (suc k) ms) (take (suc k) es) ≡ with_mark b (take k ms) (take k es) ++ e ∷ []
+-- the next entry is chosen so, or otherwise
+pub more_same : (b : Bool) (ms : List Bool) (es : List Elim) (k : ℕ) (e : Elim) → k < length ms → k < length es → e ≡ get_or es k e → is_chosen ms k ≡ b
+    → with_choice b (take (suc k) ms) (take (suc k) es) ≡ with_choice b (take k ms) (take k es) ++ e ∷ []
 more_same b [] es k e lm le at h = absurd (omega arith)
 more_same b (m ∷ ms) [] k e lm le at h = absurd (omega arith)
 more_same true (true ∷ ms) (d ∷ es) zero e lm le at h = ap (λ (x : Elim). x ∷ []) (sym at)
@@ -106,8 +106,8 @@ more_same true (false ∷ ms) (d ∷ es) (suc k) e lm le at h = more_same true m
 more_same false (true ∷ ms) (d ∷ es) (suc k) e lm le at h = more_same false ms es k e (omega arith) (omega arith) at h
 more_same false (false ∷ ms) (d ∷ es) (suc k) e lm le at h = ap (λ (xs : List Elim). d ∷ xs) (more_same false ms es k e (omega arith) (omega arith) at h)
 
-pub more_other : (b : Bool) (ms : List Bool) (es : List Elim) (k : ℕ) → k < length ms → k < length es → is_marked ms k ≡ not b
-    → with_mark b (take (suc k) ms) (take (suc k) es) ≡ with_mark b (take k ms) (take k es)
+pub more_other : (b : Bool) (ms : List Bool) (es : List Elim) (k : ℕ) → k < length ms → k < length es → is_chosen ms k ≡ not b
+    → with_choice b (take (suc k) ms) (take (suc k) es) ≡ with_choice b (take k ms) (take k es)
 more_other b [] es k lm le h = absurd (omega arith)
 more_other b (m ∷ ms) [] k lm le h = absurd (omega arith)
 more_other true (true ∷ ms) (d ∷ es) zero lm le h = absurd (both_ways true h refl)
@@ -119,36 +119,36 @@ more_other true (false ∷ ms) (d ∷ es) (suc k) lm le h = more_other true ms e
 more_other false (true ∷ ms) (d ∷ es) (suc k) lm le h = more_other false ms es k (omega arith) (omega arith) h
 more_other false (false ∷ ms) (d ∷ es) (suc k) lm le h = ap (λ (xs : List Elim). d ∷ xs) (more_other false ms es k (omega arith) (omega arith) h)
 
--- the marks of a test give the entries that pass it, and the others
-pub with_mark-test : (p : ℕ → Bool) (es : List Elim) → with_mark true (map (λ (e : Elim). p e.var) es) es ≡ filter (λ (e : Elim). p e.var) es
-with_mark-test p [] = refl
-with_mark-test p (e ∷ es) = elim (cases_Bool (p e.var)) [
-  | inl h ↦ rw h (ap (λ (xs : List Elim). e ∷ xs) (with_mark-test p es))
-  | inr h ↦ rw h (with_mark-test p es)
+-- the choice by a test gives the entries that pass it, and the others
+pub with_choice-test : (p : ℕ → Bool) (es : List Elim) → with_choice true (map (λ (e : Elim). p e.var) es) es ≡ filter (λ (e : Elim). p e.var) es
+with_choice-test p [] = refl
+with_choice-test p (e ∷ es) = elim (cases_Bool (p e.var)) [
+  | inl h ↦ rw h (ap (λ (xs : List Elim). e ∷ xs) (with_choice-test p es))
+  | inr h ↦ rw h (with_choice-test p es)
 ]
 
-pub without_mark-test : (p : ℕ → Bool) (es : List Elim) → with_mark false (map (λ (e : Elim). p e.var) es) es ≡ filter (λ (e : Elim). not (p e.var)) es
-without_mark-test p [] = refl
-without_mark-test p (e ∷ es) = elim (cases_Bool (p e.var)) [
-  | inl h ↦ rw h (without_mark-test p es)
-  | inr h ↦ rw h (ap (λ (xs : List Elim). e ∷ xs) (without_mark-test p es))
+pub without_choice-test : (p : ℕ → Bool) (es : List Elim) → with_choice false (map (λ (e : Elim). p e.var) es) es ≡ filter (λ (e : Elim). not (p e.var)) es
+without_choice-test p [] = refl
+without_choice-test p (e ∷ es) = elim (cases_Bool (p e.var)) [
+  | inl h ↦ rw h (without_choice-test p es)
+  | inr h ↦ rw h (ap (λ (xs : List Elim). e ∷ xs) (without_choice-test p es))
 ]
 
-pub count-more : (ms : List Bool) (k : ℕ) → k < length ms → is_marked ms k ≡ true → marked_count (take (suc k) ms) ≡ suc (marked_count (take k ms))
+pub count-more : (ms : List Bool) (k : ℕ) → k < length ms → is_chosen ms k ≡ true → chosen_count (take (suc k) ms) ≡ suc (chosen_count (take k ms))
 count-more [] k lt h = absurd (omega arith)
 count-more (true ∷ ms) zero lt h = refl
 count-more (false ∷ ms) zero lt h = absurd (both_ways false refl h)
 count-more (true ∷ ms) (suc k) lt h = ap suc (count-more ms k (omega arith) h)
 count-more (false ∷ ms) (suc k) lt h = count-more ms k (omega arith) h
 
-pub count-same : (ms : List Bool) (k : ℕ) → k < length ms → is_marked ms k ≡ false → marked_count (take (suc k) ms) ≡ marked_count (take k ms)
+pub count-same : (ms : List Bool) (k : ℕ) → k < length ms → is_chosen ms k ≡ false → chosen_count (take (suc k) ms) ≡ chosen_count (take k ms)
 count-same [] k lt h = absurd (omega arith)
 count-same (true ∷ ms) zero lt h = absurd (both_ways true h refl)
 count-same (false ∷ ms) zero lt h = refl
 count-same (true ∷ ms) (suc k) lt h = ap suc (count-same ms k (omega arith) h)
 count-same (false ∷ ms) (suc k) lt h = count-same ms k (omega arith) h
 
-pub count-below : (ms : List Bool) (k : ℕ) → is_marked ms k ≡ true → marked_count (take k ms) < marked_count ms
+pub count-below : (ms : List Bool) (k : ℕ) → is_chosen ms k ≡ true → chosen_count (take k ms) < chosen_count ms
 count-below [] k h = absurd (both_ways false refl h)
 count-below (true ∷ ms) zero h = omega arith
 count-below (false ∷ ms) zero h = absurd (both_ways false refl h)
@@ -161,10 +161,10 @@ count-below (false ∷ ms) (suc k) h = let r = count-below ms k h in omega arith
 pub record Splitting (es : List Elim) (ms : List Bool) (xs gone : List Elim) (places : List ℕ) (left next : ℕ) : Type 0 where
   pub size : length xs ≡ length es
   pub high : next ≤ length es
-  pub front : take left xs ≡ with_mark false (take next ms) (take next es)
+  pub front : take left xs ≡ with_choice false (take next ms) (take next es)
   pub rest : (j : ℕ) (d : Elim) → next ≤ j → get_or xs j d ≡ get_or es j d
-  pub out : gone ≡ with_mark true (take next ms) (take next es)
-  pub count : length gone ≡ marked_count (take next ms)
+  pub out : gone ≡ with_choice true (take next ms) (take next es)
+  pub count : length gone ≡ chosen_count (take next ms)
   pub index : IsSplit (variables_of (take left xs)) (variables_of es) places left next
 
 pub splitting-begin : (es : List Elim) (ms : List Bool) (gone : List Elim) (ps : List ℕ) → gone ≡ [] → IsIndexed (variables_of es) ps → Splitting es ms es gone ps 0 0
@@ -180,9 +180,9 @@ splitting-begin es ms gone ps e x = record {
 
 -- the next entry is moved out of its place
 pub splitting-take : (es : List Elim) (ms : List Bool) (xs ys gone out : List Elim) (ps qs : List ℕ) (w k n : ℕ) (e h : Elim) → length ms ≡ length es → k < length ms → n ≡ k + 1
-    → e ≡ get_or xs k e → is_marked ms k ≡ true → ys ≡ set xs k h → out ≡ gone ++ e ∷ [] → qs ≡ slice_set ps e.var 0
+    → e ≡ get_or xs k e → is_chosen ms k ≡ true → ys ≡ set xs k h → out ≡ gone ++ e ∷ [] → qs ≡ slice_set ps e.var 0
     → Splitting es ms xs gone ps w k → Splitting es ms ys out qs w n
-splitting-take es ms xs ys gone out ps qs w k n e h size lt en at mark ey eo eq s =
+splitting-take es ms xs ys gone out ps qs w k n e h size lt en at choose ey eo eq s =
     let le = s.index.low in
     let same = s.size in
     let old : e ≡ get_or es k e = at ∙ s.rest k e (omega arith) in
@@ -191,19 +191,19 @@ splitting-take es ms xs ys gone out ps qs w k n e h size lt en at mark ey eo eq 
     rw sn (record {
       size = ap length ey ∙ length-set xs k h ∙ s.size;
       high = omega arith;
-      front = stay ∙ s.front ∙ sym (more_other false ms es k lt (omega arith) mark);
+      front = stay ∙ s.front ∙ sym (more_other false ms es k lt (omega arith) choose);
       rest = λ j d lj. ap (λ (zs : List Elim). get_or zs j d) ey ∙ get_or-set_other xs k j h d (λ q. omega arith) ∙ s.rest j d (omega arith);
-      out = eo ∙ ap (λ (zs : List Elim). zs ++ e ∷ []) s.out ∙ sym (more_same true ms es k e lt (omega arith) old mark);
-      count = ap length eo ∙ length-append gone (e ∷ []) ∙ (let c = s.count in let m = count-more ms k lt mark in omega arith);
+      out = eo ∙ ap (λ (zs : List Elim). zs ++ e ∷ []) s.out ∙ sym (more_same true ms es k e lt (omega arith) old choose);
+      count = ap length eo ∙ length-append gone (e ∷ []) ∙ (let c = s.count in let m = count-more ms k lt choose in omega arith);
       index = rw (eq, stay) (subst (λ i. IsSplit (variables_of (take w xs)) (variables_of es) (slice_set ps e.var 0) w i) (omega arith)
           (split-take (variables_of (take w xs)) (variables_of es) ps w k e.var (rw (length-variables es) (omega arith)) (sym (variable_at es k e (omega arith) old)) s.index));
     })
 
 -- the next entry is moved to the end of the front
 pub splitting-leave : (es : List Elim) (ms : List Bool) (xs ys zs gone : List Elim) (ps qs : List ℕ) (w k n v : ℕ) (e h : Elim) → length ms ≡ length es → k < length ms → n ≡ k + 1 → v ≡ w + 1
-    → e ≡ get_or xs k e → is_marked ms k ≡ false → ys ≡ set xs k h → zs ≡ set ys w e → qs ≡ slice_set ps e.var v
+    → e ≡ get_or xs k e → is_chosen ms k ≡ false → ys ≡ set xs k h → zs ≡ set ys w e → qs ≡ slice_set ps e.var v
     → Splitting es ms xs gone ps w k → Splitting es ms zs gone qs v n
-splitting-leave es ms xs ys zs gone ps qs w k n v e h size lt en ev at mark ey ez eq s =
+splitting-leave es ms xs ys zs gone ps qs w k n v e h size lt en ev at choose ey ez eq s =
     let le = s.index.low in
     let same = s.size in
     let old : e ≡ get_or es k e = at ∙ s.rest k e (omega arith) in
@@ -217,11 +217,11 @@ splitting-leave es ms xs ys zs gone ps qs w k n v e h size lt en ev at mark ey e
     rw (sn, sv) (record {
       size = ap length ez ∙ length-set ys w e ∙ long_y ∙ s.size;
       high = omega arith;
-      front = longer ∙ ap (λ (fs : List Elim). fs ++ e ∷ []) s.front ∙ sym (more_same false ms es k e lt (omega arith) old mark);
+      front = longer ∙ ap (λ (fs : List Elim). fs ++ e ∷ []) s.front ∙ sym (more_same false ms es k e lt (omega arith) old choose);
       rest = λ j d lj. ap (λ (fs : List Elim). get_or fs j d) ez ∙ get_or-set_other ys w j e d (λ q. omega arith)
           ∙ ap (λ (fs : List Elim). get_or fs j d) ey ∙ get_or-set_other xs k j h d (λ q. omega arith) ∙ s.rest j d (omega arith);
-      out = s.out ∙ sym (more_other true ms es k lt (omega arith) mark);
-      count = s.count ∙ sym (count-same ms k lt mark);
+      out = s.out ∙ sym (more_other true ms es k lt (omega arith) choose);
+      count = s.count ∙ sym (count-same ms k lt choose);
       index = rw (eq, vars) (subst (λ i. IsSplit (variables_of (take w xs) ++ e.var ∷ []) (variables_of es) (slice_set ps e.var v) (suc w) i) (omega arith)
           (subst (λ i. IsSplit (variables_of (take w xs) ++ e.var ∷ []) (variables_of es) (slice_set ps e.var v) i (k + 1)) sv
           (split-leave (variables_of (take w xs)) (variables_of es) ps w k e.var v front_long (rw (length-variables es) (omega arith)) (sym (variable_at es k e (omega arith) old)) ev s.index)));
@@ -229,16 +229,16 @@ splitting-leave es ms xs ys zs gone ps qs w k n v e h size lt en ev at mark ey e
 
 -- all entries were looked at
 pub splitting-end : (es : List Elim) (ms : List Bool) (xs gone left : List Elim) (ps : List ℕ) (w k : ℕ) → length ms ≡ length es → k ≡ length ms → left ≡ take w xs → Splitting es ms xs gone ps w k
-    → (left ≡ with_mark false ms es) × (gone ≡ with_mark true ms es) × IsIndexed (variables_of left) ps
+    → (left ≡ with_choice false ms es) × (gone ≡ with_choice true ms es) × IsIndexed (variables_of left) ps
 splitting-end es ms xs gone left ps w k size ek el s =
-    let marks : take k ms ≡ ms = take_all k ms (omega arith) in
+    let choice : take k ms ≡ ms = take_all k ms (omega arith) in
     let all : take k es ≡ es = take_all k es (omega arith) in
     let le = s.index.low in
     let high = s.high in
     let same = s.size in
     let long : length (variables_of (take w xs)) ≡ w = length-variables (take w xs) ∙ length-take-le w xs (omega arith) in (
-      el ∙ s.front ∙ (λ i. with_mark false (marks i) (all i)),
-      s.out ∙ (λ i. with_mark true (marks i) (all i)),
+      el ∙ s.front ∙ (λ i. with_choice false (choice i) (all i)),
+      s.out ∙ (λ i. with_choice true (choice i) (all i)),
       rw el (split-end (variables_of (take w xs)) (variables_of es) ps w k long (ek ∙ size ∙ sym (length-variables es)) s.index),
     )
 
@@ -251,21 +251,21 @@ splitting-row es ms xs gone ps w k e lt at s =
     let here2 : slice_index ps e.var ≡ k + 1 = subst (λ v. slice_index ps v ≡ k + 1) is here in
     within ps e.var (omega arith)
 
--- a marked entry has room
-pub splitting-room : (es : List Elim) (ms : List Bool) (xs gone : List Elim) (ps : List ℕ) (w k n room : ℕ) → is_marked ms k ≡ true → n ≡ length gone → marked_count ms ≤ room → Splitting es ms xs gone ps w k → n < room
-splitting-room es ms xs gone ps w k n room mark en le s = let c = s.count in let b = count-below ms k mark in omega arith
+-- a chosen entry has room
+pub splitting-room : (es : List Elim) (ms : List Bool) (xs gone : List Elim) (ps : List ℕ) (w k n room : ℕ) → is_chosen ms k ≡ true → n ≡ length gone → chosen_count ms ≤ room → Splitting es ms xs gone ps w k → n < room
+splitting-room es ms xs gone ps w k n room choose en le s = let c = s.count in let b = count-below ms k choose in omega arith
 
 -- what was read of a list of entries
 pub read_entry : (xs : List Elim) (k : ℕ) (e d : Elim) → e ≡ d → d ≡ get_or xs k d → e ≡ get_or xs k e
 read_entry xs k e d q at = subst (λ (z : Elim). z ≡ get_or xs k z) (sym q) at
 
-pub counted_more : (ms : List Bool) (k n v : ℕ) → k < length ms → is_marked ms k ≡ true → n ≡ marked_count (take k ms) → v ≡ n + 1 → v ≡ marked_count (take (k + 1) ms)
-counted_more ms k n v lt mark e ev = let m = count-more ms k lt mark in let q : k + 1 ≡ suc k = omega arith in rw q (omega arith)
+pub counted_more : (ms : List Bool) (k n v : ℕ) → k < length ms → is_chosen ms k ≡ true → n ≡ chosen_count (take k ms) → v ≡ n + 1 → v ≡ chosen_count (take (k + 1) ms)
+counted_more ms k n v lt choose e ev = let m = count-more ms k lt choose in let q : k + 1 ≡ suc k = omega arith in rw q (omega arith)
 
-pub counted_same : (ms : List Bool) (k n : ℕ) → k < length ms → is_marked ms k ≡ false → n ≡ marked_count (take k ms) → n ≡ marked_count (take (k + 1) ms)
-counted_same ms k n lt mark e = let m = count-same ms k lt mark in let q : k + 1 ≡ suc k = omega arith in rw q (omega arith)
+pub counted_same : (ms : List Bool) (k n : ℕ) → k < length ms → is_chosen ms k ≡ false → n ≡ chosen_count (take k ms) → n ≡ chosen_count (take (k + 1) ms)
+counted_same ms k n lt choose e = let m = count-same ms k lt choose in let q : k + 1 ≡ suc k = omega arith in rw q (omega arith)
 
-pub count_le : (ms : List Bool) (k : ℕ) → marked_count (take k ms) ≤ k
+pub count_le : (ms : List Bool) (k : ℕ) → chosen_count (take k ms) ≤ k
 count_le ms zero = omega arith
 count_le [] (suc k) = omega arith
 count_le (true ∷ ms) (suc k) = let r = count_le ms k in omega arith

@@ -5,20 +5,20 @@ use Rattle.std.proofs.lemmas.Bool.{and_parts, or_cases, or_parts, or_left, or_ri
 use Rattle.lits.specs.Literal.{var}
 use Rattle.session_rules.specs.Logic.{has}
 use Rattle.lits.proofs.Members.{here, there, not_in_nil, here_or_there, all_at, all_from, any_at, any_from, filter_from, filter_at, has_at, has_from}
-use Rattle.restore.specs.Resolution.{of_variable, mentions, variables, all_variables}
+use Rattle.restore.specs.Resolution.{of_variable, has_variable, variables, all_variables}
 use Rattle.restore.specs.declared.lists.Elim.{Elim}
 use Rattle.restore.specs.Stack.{clauses_of, wants, IsClosed, with_entries, with_entries_times, is_wanted, has_entry, left_in}
 use Rattle.restore.proofs.Joined.{count-lt, append_at, append_left, append_right, map_at, map_from, flat_at, flat_from}
 use Rattle.restore.proofs.Extending.{none_at, none_from, not_all_at}
 
--- a variable of clauses is one that a clause mentions
-pub all_variables_from : (cs : List (List ℕ)) (c : List ℕ) (x : ℕ) → Contains cs c → mentions x c ≡ true → Contains (all_variables cs) x
+-- a variable of clauses is one that a clause has_variable
+pub all_variables_from : (cs : List (List ℕ)) (c : List ℕ) (x : ℕ) → Contains cs c → has_variable x c ≡ true → Contains (all_variables cs) x
 all_variables_from cs c x m h = let l = any_at (of_variable x) c h in
     flat_from variables cs c x m (subst (λ z. Contains (variables c) z) (eqb-true _ _ l.2) (map_from var c l.0 l.1))
 
-pub all_variables_at : (cs : List (List ℕ)) (x : ℕ) → Contains (all_variables cs) x → list_any (mentions x) cs ≡ true
+pub all_variables_at : (cs : List (List ℕ)) (x : ℕ) → Contains (all_variables cs) x → list_any (has_variable x) cs ≡ true
 all_variables_at cs x m = let c = flat_at variables cs x m in let l = map_at var c.0 x c.2 in
-    any_from (mentions x) cs c.0 c.1 (any_from (of_variable x) c.0 l.0 l.1 (eq-eqb _ _ l.2))
+    any_from (has_variable x) cs c.0 c.1 (any_from (of_variable x) c.0 l.0 l.1 (eq-eqb _ _ l.2))
 
 -- what is reached stays reached
 grows : (ds : List Elim) (xs : List ℕ) (x : ℕ) → has xs x ≡ true → has (with_entries ds xs) x ≡ true
@@ -96,7 +96,7 @@ abbrev reaches_none : List Elim → List ℕ → Bool
 reaches_none es xs = list_all (λ (e : Elim). not (has (with_entries es xs) e.var) || has xs e.var) es
 
 wants_variables : (e f : Elim) → wants e f ≡ true → Contains (all_variables (clauses_of e)) f.var
-wants_variables e f h = let c = any_at (mentions f.var) (clauses_of e) h in all_variables_from (clauses_of e) c.0 f.var c.1 c.2
+wants_variables e f h = let c = any_at (has_variable f.var) (clauses_of e) h in all_variables_from (clauses_of e) c.0 f.var c.1 c.2
 
 closed-found : (es : List Elim) (xs : List ℕ) → reaches_none es xs ≡ true → IsClosed es (has (with_entries es xs))
 closed-found es xs r = λ e f m n h k.

@@ -1,4 +1,4 @@
--- Where no asked variable has an entry nothing is taken out, and what is taken out by marks.
+-- Where no asked variable has an entry nothing is taken out, and what is taken out by choice.
 use Rattle.std.proofs.Common.{◌≡◌, ℕ, suc, ◌≤◌, ◌<◌, Bool, true, false, not, ◌||◌, nat_eq, List, [], ◌∷◌, ◌++◌, length, map, filter, take, drop, Contains, refl, sym, ◌∙◌, ap, subst, inl, inr, arith, eqb-true, eq-eqb}
 use Rattle.std.specs.List.{list_any}
 use Rattle.std.proofs.lemmas.Bool.{cases_Bool, both_ways}
@@ -7,9 +7,9 @@ use Rattle.lits.proofs.Members.{here, there, any_from, has_at}
 use Rattle.session_rules.specs.Logic.{has}
 use Rattle.restore.specs.declared.lists.Elim.{Elim}
 use Rattle.restore.specs.Stack.{has_entry, taken, left_in, is_wanted}
-use Rattle.restore.specs.Split.{with_mark}
+use Rattle.restore.specs.Split.{with_choice}
 use Rattle.restore.proofs.Taking.{is_wanted-least}
-use Rattle.restore.proofs.Splitting.{with_mark-test, without_mark-test}
+use Rattle.restore.proofs.Splitting.{with_choice-test, without_choice-test}
 
 unwanted : (es : List Elim) (xs : List ℕ) → list_any (has_entry es) xs ≡ false → (e : Elim) → Contains es e → is_wanted es xs e.var ≡ false
 unwanted es xs none e m = elim (cases_Bool (is_wanted es xs e.var)) [
@@ -32,14 +32,14 @@ none_taken es xs h = filter_none (λ (e : Elim). is_wanted es xs e.var) es (unwa
 pub all_left : (es : List Elim) (xs : List ℕ) → list_any (has_entry es) xs ≡ false → left_in (is_wanted es xs) es ≡ es
 all_left es xs h = filter_all (λ (e : Elim). not (is_wanted es xs e.var)) es (λ e m. ap not (unwanted es xs h e m))
 
-pub marks_taken : (es gone : List Elim) (xs : List ℕ) (ms : List Bool) → ms ≡ map (λ (e : Elim). is_wanted es xs e.var) es → gone ≡ with_mark true ms es → gone ≡ taken (is_wanted es xs) es
-marks_taken es gone xs ms em eg = eg ∙ ap (λ ns. with_mark true ns es) em ∙ with_mark-test (is_wanted es xs) es
+pub choice_taken : (es gone : List Elim) (xs : List ℕ) (ms : List Bool) → ms ≡ map (λ (e : Elim). is_wanted es xs e.var) es → gone ≡ with_choice true ms es → gone ≡ taken (is_wanted es xs) es
+choice_taken es gone xs ms em eg = eg ∙ ap (λ ns. with_choice true ns es) em ∙ with_choice-test (is_wanted es xs) es
 
-pub marks_left : (es rest : List Elim) (xs : List ℕ) (ms : List Bool) → ms ≡ map (λ (e : Elim). is_wanted es xs e.var) es → rest ≡ with_mark false ms es → rest ≡ left_in (is_wanted es xs) es
-marks_left es rest xs ms em er = er ∙ ap (λ ns. with_mark false ns es) em ∙ without_mark-test (is_wanted es xs) es
+pub choice_left : (es rest : List Elim) (xs : List ℕ) (ms : List Bool) → ms ≡ map (λ (e : Elim). is_wanted es xs e.var) es → rest ≡ with_choice false ms es → rest ≡ left_in (is_wanted es xs) es
+choice_left es rest xs ms em er = er ∙ ap (λ ns. with_choice false ns es) em ∙ without_choice-test (is_wanted es xs) es
 
-pub length-marks : (es : List Elim) (p : Elim → Bool) (ms : List Bool) → ms ≡ map p es → length ms ≡ length es
-length-marks es p ms e = ap length e ∙ mapped es
+pub length-choice : (es : List Elim) (p : Elim → Bool) (ms : List Bool) → ms ≡ map p es → length ms ≡ length es
+length-choice es p ms e = ap length e ∙ mapped es
   where
     mapped : (ds : List Elim) → length (map p ds) ≡ length ds
     mapped [] = refl

@@ -2,5 +2,5 @@ pub mod Resolution
 pub mod Stack
 pub mod Values
 pub mod Indexed
-pub mod Marks
+pub mod Choice
 pub mod Split

@@ -17,8 +17,8 @@ abbrev pub is_negated : ℕ → ℕ → Bool
 is_negated x l = of_variable x l && not (positive l)
 
 -- whether a clause holds a variable or its negation
-abbrev pub mentions : ℕ → List ℕ → Bool
-mentions x c = list_any (of_variable x) c
+abbrev pub has_variable : ℕ → List ℕ → Bool
+has_variable x c = list_any (of_variable x) c
 
 -- whether a clause holds the variable itself
 abbrev pub holds : ℕ → List ℕ → Bool

@@ -1,21 +1,21 @@
--- Splitting the entries by their marks, and the table of places while it is done.
+-- Splitting the entries by the choice, and the table of places while it is done.
 use Rattle.std.specs.Prelude.{◌≡◌, ℕ, suc, ◌+◌, ◌-◌, ◌<◌, ◌≤◌, ◌⊎◌, Bool, true, false, List, [], ◌∷◌, length, if◌then◌else◌, slice_index}
 use Rattle.restore.specs.declared.lists.Elim.{Elim}
 
--- the entries whose mark is this one, in their order
-abbrev pub with_mark : Bool → List Bool → List Elim → List Elim
-with_mark b [] es = []
-with_mark b (m ∷ ms) [] = []
-with_mark true (true ∷ ms) (e ∷ es) = e ∷ with_mark true ms es
-with_mark true (false ∷ ms) (e ∷ es) = with_mark true ms es
-with_mark false (true ∷ ms) (e ∷ es) = with_mark false ms es
-with_mark false (false ∷ ms) (e ∷ es) = e ∷ with_mark false ms es
+-- the entries for which the choice is this one, in their order
+abbrev pub with_choice : Bool → List Bool → List Elim → List Elim
+with_choice b [] es = []
+with_choice b (m ∷ ms) [] = []
+with_choice true (true ∷ ms) (e ∷ es) = e ∷ with_choice true ms es
+with_choice true (false ∷ ms) (e ∷ es) = with_choice true ms es
+with_choice false (true ∷ ms) (e ∷ es) = with_choice false ms es
+with_choice false (false ∷ ms) (e ∷ es) = e ∷ with_choice false ms es
 
--- how many are marked
-abbrev pub marked_count : List Bool → ℕ
-marked_count [] = 0
-marked_count (true ∷ ms) = suc (marked_count ms)
-marked_count (false ∷ ms) = marked_count ms
+-- how many are chosen
+abbrev pub chosen_count : List Bool → ℕ
+chosen_count [] = 0
+chosen_count (true ∷ ms) = suc (chosen_count ms)
+chosen_count (false ∷ ms) = chosen_count ms
 
 -- so many variables are left in front, and from a place on the variables have their old places
 pub record IsSplit (front vars places : List ℕ) (left next : ℕ) : Type 0 where

@@ -3,7 +3,7 @@ use Rattle.std.specs.Prelude.{◌≡◌, ℕ, zero, suc, Bool, true, false, not,
 use Rattle.std.specs.List.{list_any, list_all}
 use Rattle.lits.specs.Literal.{var}
 use Rattle.session_rules.specs.Logic.{has, same_set, is_tautology, satisfies}
-use Rattle.restore.specs.Resolution.{mentions, holds, holds_negated, is_plain, resolvent, resolvents, all_variables, Entails}
+use Rattle.restore.specs.Resolution.{has_variable, holds, holds_negated, is_plain, resolvent, resolvents, all_variables, Entails}
 use Rattle.restore.specs.declared.lists.Kept.{Kept}
 use Rattle.restore.specs.declared.lists.Elim.{Elim}
 use Rattle.restore.specs.Values.{IsReserved}
@@ -21,8 +21,8 @@ stacked es = flat_map clauses_of es
 -- of an entry, where these clauses are behind it: each of its clauses holds its variable, none of those does, and
 -- those imply its resolvents that are no tautologies
 pub record IsKeptBy (e : Elim) (behind : List (List ℕ)) : Type 0 where
-  pub holding : (c : List ℕ) → Contains (clauses_of e) c → mentions e.var c ≡ true
-  pub apart : (c : List ℕ) → Contains behind c → mentions e.var c ≡ false
+  pub holding : (c : List ℕ) → Contains (clauses_of e) c → has_variable e.var c ≡ true
+  pub apart : (c : List ℕ) → Contains behind c → has_variable e.var c ≡ false
   pub implied : (c d : List ℕ) → Contains (clauses_of e) c → Contains (clauses_of e) d → holds e.var c ≡ true → holds_negated e.var d ≡ true
       → is_tautology (resolvent e.var c d) ≡ false → Entails behind (resolvent e.var c d)
 
@@ -75,7 +75,7 @@ left_in s es = filter (λ (e : Elim). not (s e.var)) es
 
 -- whether a clause of the first entry holds the variable of the second
 abbrev pub wants : Elim → Elim → Bool
-wants e f = list_any (mentions f.var) (clauses_of e)
+wants e f = list_any (has_variable f.var) (clauses_of e)
 
 -- with an entry the set has each entry whose variable stands in its clauses
 abbrev pub IsClosed : List Elim → (ℕ → Bool) → Type 0
@@ -99,17 +99,17 @@ is_wanted es xs x = has (with_entries_times (length es) es xs) x
 
 -- the entry has just the clauses that hold its variable
 pub record IsEntryOf (e : Elim) (cs : List (List ℕ)) : Type 0 where
-  pub holding : (c : List ℕ) → Contains (clauses_of e) c → mentions e.var c ≡ true
+  pub holding : (c : List ℕ) → Contains (clauses_of e) c → has_variable e.var c ≡ true
   pub before : (c : List ℕ) → Contains (clauses_of e) c → Contains cs c
-  pub whole : (c : List ℕ) → Contains cs c → mentions e.var c ≡ true → Contains (clauses_of e) c
+  pub whole : (c : List ℕ) → Contains cs c → has_variable e.var c ≡ true → Contains (clauses_of e) c
 
 -- the first irredundant clauses give the second by an elimination with this entry: they have the clauses without its
 -- variable, none with it, only variables from before, and they imply its resolvents that are no tautologies
 pub record Eliminates (e : Elim) (cs ds : List (List ℕ)) : Type 0 where
   pub entry : IsEntryOf e cs
-  pub others : (c : List ℕ) → Contains cs c → mentions e.var c ≡ false → Contains ds c
-  pub gone : (c : List ℕ) → Contains ds c → mentions e.var c ≡ false
-  pub old : (c : List ℕ) (y : ℕ) → Contains ds c → mentions y c ≡ true → (d : List ℕ) × Contains cs d × (mentions y d ≡ true)
+  pub others : (c : List ℕ) → Contains cs c → has_variable e.var c ≡ false → Contains ds c
+  pub gone : (c : List ℕ) → Contains ds c → has_variable e.var c ≡ false
+  pub old : (c : List ℕ) (y : ℕ) → Contains ds c → has_variable y c ≡ true → (d : List ℕ) × Contains cs d × (has_variable y d ≡ true)
   pub resolved : (c d : List ℕ) → Contains (clauses_of e) c → Contains (clauses_of e) d → holds e.var c ≡ true → holds_negated e.var d ≡ true
       → is_tautology (resolvent e.var c d) ≡ false → Entails ds (resolvent e.var c d)
 
@@ -117,10 +117,19 @@ pub record Eliminates (e : Elim) (cs ds : List (List ℕ)) : Type 0 where
 abbrev pub has_set : List (List ℕ) → List ℕ → Bool
 has_set cs c = list_any (same_set c) cs
 
--- whether these are the resolvents that are due: each is one, and each is among them or the irredundant clauses
-abbrev pub are_resolvents : ℕ → List (List ℕ) → List (List ℕ) → Bool
-are_resolvents x cs ls = list_all (has_set (resolvents x cs)) ls && list_all (has_set (cs ++ ls)) (resolvents x cs)
+-- whether no two of some clauses have the same set
+abbrev pub differ : List (List ℕ) → Bool
+differ [] = true
+differ (c ∷ cs) = not (has_set cs c) && differ cs
+
+-- the resolvents that are due: those whose set no irredundant clause has
+abbrev pub due_resolvents : ℕ → List (List ℕ) → List (List ℕ)
+due_resolvents x cs = filter (λ r. not (has_set cs r)) (resolvents x cs)
+
+-- whether some clauses are the resolvents that are due, the set of each once
+abbrev pub are_due : ℕ → List (List ℕ) → List (List ℕ) → Bool
+are_due x cs ls = differ ls && (list_all (has_set (due_resolvents x cs)) ls && list_all (has_set ls) (due_resolvents x cs))
 
 -- the irredundant clauses behind an elimination that wrote these resolvents
 abbrev pub behind_elimination : ℕ → List (List ℕ) → List (List ℕ) → List (List ℕ)
-behind_elimination x cs ls = filter (λ c. not (mentions x c)) cs ++ ls
+behind_elimination x cs ls = filter (λ c. not (has_variable x c)) cs ++ ls

@@ -1,9 +1,9 @@
 // Laws of the stack, over its definitions: what extended values satisfy, what pushing and taking out keep, and that what
 // is taken out is the least that can be.
-ghost use Rattle.std.specs.Prelude.{◌≡◌, ℕ, ◌++◌, ◌∷◌, [], Bool, true, false, List, Contains, IsTrue};
-ghost use Rattle.session_rules.specs.Logic.{has, satisfies_formula};
-ghost use Rattle.restore.specs.Resolution.{Entails};
-ghost use Rattle.restore.specs.Stack.{stacked, KeepsResolvents, extended, has_entry, taken, left_in, IsClosed, is_wanted, IsEntryOf, Eliminates, are_resolvents, behind_elimination};
+ghost use Rattle.std.specs.Prelude.{◌≡◌, ◌↔◌, ℕ, ◌++◌, ◌∷◌, [], Bool, true, false, List, Contains, IsTrue};
+ghost use Rattle.session_rules.specs.Logic.{has, satisfies_formula, Implies};
+ghost use Rattle.restore.specs.Resolution.{resolvents, Entails};
+ghost use Rattle.restore.specs.Stack.{stacked, KeepsResolvents, extended, has_entry, taken, left_in, IsClosed, is_wanted, IsEntryOf, Eliminates, has_set, are_due, behind_elimination};
 ghost use Rattle.restore.specs.declared.lists.Elim.{Elim};
 
 /// Where the resolvents of a stack are kept by clauses and values satisfy these, the extended values satisfy them and
@@ -20,8 +20,23 @@ pub fn pushing_keeps()
     ensures kept { (es : List Elim) (e : Elim) (cs ds : List (List ℕ)) → KeepsResolvents es cs → Eliminates e cs ds → KeepsResolvents (es ++ e ∷ []) ds }
     ensures implied { (es : List Elim) (e : Elim) (cs ds : List (List ℕ)) (c : List ℕ) → Eliminates e cs ds → Entails (stacked es ++ cs) c
         → Entails (stacked (es ++ e ∷ []) ++ ds) c }
-    ensures written { (e : Elim) (cs ls : List (List ℕ)) → IsEntryOf e cs → IsTrue (are_resolvents e.var cs ls)
+    ensures written { (e : Elim) (cs ls : List (List ℕ)) → IsEntryOf e cs → IsTrue (are_due e.var cs ls)
         → Eliminates e cs (behind_elimination e.var cs ls) }
+{}
+
+/// The resolvents that are due are resolvents that no irredundant clause is, the set of each once; and each resolvent that no
+/// irredundant clause is is among them.
+pub fn due_resolvents_are_exact()
+    ensures resolvents { (x : ℕ) (cs ls : List (List ℕ)) → IsTrue (are_due x cs ls) → (c : List ℕ) → Contains ls c → IsTrue (has_set (resolvents x cs) c) }
+    ensures new { (x : ℕ) (cs ls : List (List ℕ)) → IsTrue (are_due x cs ls) → (c : List ℕ) → Contains ls c → has_set cs c ≡ false }
+    ensures once { (x : ℕ) (cs before after : List (List ℕ)) (c : List ℕ) → IsTrue (are_due x cs (before ++ c ∷ after)) → has_set (before ++ after) c ≡ false }
+    ensures each { (x : ℕ) (cs ls : List (List ℕ)) → IsTrue (are_due x cs ls) → (r : List ℕ) → Contains (resolvents x cs) r → has_set cs r ≡ false
+        → IsTrue (has_set ls r) }
+{}
+
+/// Clauses entail a clause exactly where they imply it: no assignment satisfies them and all its literals' negations.
+pub fn entailed_clauses_are_implied()
+    ensures { (cs : List (List ℕ)) (c : List ℕ) → Entails cs c ↔ Implies cs c }
 {}
 
 /// Where the entries of a closed set are taken out and their clauses are irredundant again, the resolvents of the others

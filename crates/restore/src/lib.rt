@@ -12,7 +12,10 @@ mod stack;
 mod take;
 mod values;
 
-pub use laws::{extension_satisfies, pushing_keeps, rounds_find_least, taking_keeps};
+pub use laws::{
+    due_resolvents_are_exact, entailed_clauses_are_implied, extension_satisfies, pushing_keeps,
+    rounds_find_least, taking_keeps,
+};
 pub use lists::{Elim, ElimList, Kept, KeptList};
 pub use stack::Stack;
 pub use values::Values;

@@ -5,7 +5,7 @@ ghost use Rattle.restore.specs.Stack.{has_entry, taken, left_in, is_wanted, Exte
 ghost use Rattle.restore.specs.Values.{value, reserved};
 
 use crate::extend::is_needed;
-use crate::take::{count_marked, split, wanted};
+use crate::take::{count_chosen, split, wanted};
 use crate::{Elim, ElimList, Values};
 use std::alloc::{AllocError, Global};
 use std::marker::Model;
@@ -114,13 +114,13 @@ impl Stack {
         if !self.has_any(vars) {
             return Ok(ElimList::new(alloc));
         }
-        let marked = wanted(alloc, &self.entries, &self.places, vars)?;
-        let mut out = Vec::with_capacity(alloc, count_marked(&marked))?;
+        let chosen = wanted(alloc, &self.entries, &self.places, vars)?;
+        let mut out = Vec::with_capacity(alloc, count_chosen(&chosen))?;
         split(
             alloc,
             &mut self.entries,
             &mut self.places,
-            &marked,
+            &chosen,
             &mut out,
         );
         Ok(ElimList::from_vec(out))

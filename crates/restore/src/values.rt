@@ -1,5 +1,5 @@
 // The values of variables, as a table.
-ghost use Rattle.std.specs.Prelude.{◌≡◌, ◌++◌, ◌-◌, ◌≤◌, [], false, length, replicate, slice_set, OnOk, OnErr};
+ghost use Rattle.std.specs.Prelude.{◌≡◌, ◌++◌, ◌-◌, ◌≤◌, [], false, length, replicate, slice_set, OnOk, OnErr, IsOk};
 ghost use Rattle.restore.specs.Values.{value, reserved, IsReserved};
 
 use lits::MAX_VAR;
@@ -31,13 +31,14 @@ impl Values {
         }
     }
 
-    /// Reserves the variables up to this one. New ones are false.
+    /// Reserves the variables up to this one. New ones are false. Where they are reserved already it takes no memory.
     ///
     /// `AllocError` means want of memory, and then nothing is changed.
     pub fn reserve(&mut self, vars: u32) -> Result<(), AllocError>
         requires { vars ≤ MAX_VAR }
         ensures ok { OnOk result (self.new ≡ self.old ++ replicate (vars - reserved self.old) false) }
         ensures err { OnErr result (self.new ≡ self.old) }
+        ensures already { vars ≤ reserved self.old → IsOk result }
     {
         if vars as usize > self.items.len() {
             self.items.resize(vars as usize, false)?;

@@ -5,4 +5,4 @@ use Rattle.restore.proofs.take.split.Given as goal
 
 abbrev pub invariant-loop-place : goal.invariant-loop-place
 invariant-loop-place l =
-    Splitting l.initial.entries.items l.marked l.entries.items l.taken.items l.places l.left l.place × (vec_capacity l.taken ≡ vec_capacity l.initial.taken)
+    Splitting l.initial.entries.items l.chosen l.entries.items l.taken.items l.places l.left l.place × (vec_capacity l.taken ≡ vec_capacity l.initial.taken)

@@ -1,10 +1,10 @@
 use Rattle.std.proofs.Common.{◌+◌, length}
-use Rattle.restore.specs.Marks.{unmarked}
-use Rattle.restore.proofs.Marking.{Wanting}
+use Rattle.restore.specs.Choice.{unchosen}
+use Rattle.restore.proofs.Choosing.{Wanting}
 use Rattle.restore.proofs.take.wanted.Given as goal
 
 abbrev pub invariant-loop-place : goal.invariant-loop-place
-invariant-loop-place l = Wanting l.entries l.vars l.marks.marked.items l.marks.due.items
+invariant-loop-place l = Wanting l.entries l.vars l.choice.chosen.items l.choice.due.items
 
 abbrev pub decreases-loop-place : goal.decreases-loop-place
-decreases-loop-place l = unmarked l.marks.marked.items + length l.marks.due.items
+decreases-loop-place l = unchosen l.choice.chosen.items + length l.choice.due.items

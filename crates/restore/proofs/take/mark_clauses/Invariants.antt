@@ -1,8 +1,0 @@
-use Rattle.std.proofs.Common.{map, take}
-use Rattle.restore.specs.declared.lists.Kept.{Kept}
-use Rattle.restore.specs.Resolution.{all_variables}
-use Rattle.restore.proofs.Marking.{SoFar}
-use Rattle.restore.proofs.take.mark_clauses.Given as goal
-
-abbrev pub invariant-loop-kept : goal.invariant-loop-kept
-invariant-loop-kept l = SoFar l.places l.initial.marks.marked.items l.marks.marked.items l.initial.marks.due.items l.marks.due.items (all_variables (map (λ (k : Kept). k.lits) (take l.kept-index l.clauses)))
