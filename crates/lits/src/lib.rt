@@ -26,7 +26,10 @@ use std::alloc::{AllocError, Global};
 use std::marker::Model;
 
 /// The greatest variable.
-pub const MAX_VAR: u32 = 16_777_215;
+pub const MAX_VAR: u32 = 2_147_483_647;
+
+/// The greatest variable that a file may name: tables are as long as the greatest variable that was named.
+pub const MAX_FILE_VAR: u32 = 16_777_215;
 
 /// A variable or its negation, ordered by its code. The default is variable 1, which fills unused places of short sets.
 #[derive(Clone, Copy, PartialEq, Eq, PartialOrd, Ord, Hash, Debug, Default)]
@@ -123,7 +126,7 @@ pub enum LitWord {
     Value(Lit),
     /// Another word, or one of more than 32 bytes.
     NotNumber,
-    /// A number beyond the greatest variable.
+    /// A number beyond the greatest variable that a file may name.
     OutOfRange,
 }
 
