@@ -71,5 +71,13 @@ fn what_a_wanted_entry_holds_is_taken_out_with_it(rt: HostRuntime) -> Result<(),
     assert!(rt; stack.has(1));
     assert!(rt; !stack.has(3));
     assert!(rt; !stack.has(5));
+
+    let mut chain = Stack::new(alloc);
+    for var in 1..1002u32 {
+        assert!(rt; !chain.has(var));
+        assert!(rt; chain.push(entry(alloc, var, var + 1)?).is_ok());
+    }
+    assert_eq!(rt; chain.take_for(&[1])?.len(), 1001);
+    assert!(rt; !chain.has(1001));
     Ok(())
 }
