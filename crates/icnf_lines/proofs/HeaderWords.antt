@@ -127,7 +127,7 @@ at_bound name o q t u h = elim (next_cut (header_line name) rules.Header (no_wor
 ]
 
 not_reached : (name : List ℕ) (e : TokenFault) (o q : Place) (t u : List ℕ) → Reaches o t q u (Err e) → HeaderAnswers name o t q u (Err (stream_fault_of e))
-not_reached name tokens.Read o q t u h = tt
+not_reached name tokens.Read o q t u h = inr h
 not_reached name tokens.LongWord o q t u h = absurd h
 not_reached name tokens.Length o q t u h = at_bound name o q t u h
 

@@ -1,5 +1,5 @@
 -- The rule that a line breaks, by what was found of its literals.
-use Rattle.std.proofs.Common.{◌≡◌, ℕ, Bool, true, false, not, ◌&&◌, cond, List, [], ◌∷◌, ◌++◌, find, slice_get, Some, None, Ok, Err, refl, sym, ◌∙◌, ap}
+use Rattle.std.proofs.Common.{◌≡◌, ℕ, Bool, true, false, not, ◌&&◌, cond, List, [], ◌∷◌, ◌++◌, find, slice_get, Some, None, Ok, Err, refl, sym, ◌∙◌, ap, inl}
 use Rattle.std.specs.declared.option.Option.{Option}
 use Rattle.std.specs.declared.result.Result.{Result}
 use Rattle.std.specs.Option.{option_or, option_map, is_none}
@@ -141,8 +141,8 @@ status_meets e qs answer status o n a b rule h = record {
 
 fault_answers : (e : Event) (qs : List ℕ) (fault : LineFault) (o q : Place) (t v : List ℕ) → LineAnswers icnf_line o t q v (Err fault) → Matches e qs o t q v (Err (match_fault fault))
 fault_answers e qs (faults.Syntax r) o q t v h = h
-fault_answers e qs faults.Read o q t v h = tt
-fault_answers e qs faults.Memory o q t v h = tt
+fault_answers e qs faults.Read o q t v h = h
+fault_answers e qs faults.Memory o q t v h = inl h
 
 pub matches : (letter : Letter) (e : Event) (qs : List ℕ) (r : Result (Option Rule) LineFault) (o p q : Place) (a b d : Option (List ℕ)) → q.line ≡ p.line
     → WhereTold a (ahead p b) (λ t u. Entered letter o t p u) → RestAnswers letter e qs r p b q d → WhereTold a (ahead q d) (λ t v. Matches e qs o t q v (answer_of r))

@@ -1,5 +1,5 @@
 -- What reading a stream's header answers.
-use Rattle.std.specs.Prelude.{◌≡◌, ℕ, ◌⊎◌, ⊤, List, Ok, Err}
+use Rattle.std.specs.Prelude.{◌≡◌, ℕ, ◌⊎◌, List, Ok, Err}
 use Rattle.std.specs.declared.result.Result.{Result}
 use Rattle.session_rules.specs.declared.Rule.{Rule}
 use Rattle.session_rules.specs.declared.Rule.TheVariants as rules
@@ -10,7 +10,7 @@ use Rattle.slice_tokens.specs.declared.token.TokenFault.{TokenFault}
 use Rattle.slice_tokens.specs.declared.token.TokenFault.TheVariants as tokens
 use Rattle.slice_tokens.specs.Place.{Place}
 use Rattle.slice_tokens.specs.Calls.{AtEnd}
-use Rattle.line_reading.specs.Whole.{Says, Breaks, BehindCut}
+use Rattle.line_reading.specs.Whole.{Says, Breaks, BehindCut, StopsInOrBefore}
 use Rattle.icnf_lines.specs.declared.header.HeaderFault.{HeaderFault}
 use Rattle.icnf_lines.specs.declared.header.HeaderFault.TheVariants.{Syntax, Read}
 
@@ -23,7 +23,7 @@ pub record Headless (r : Rule) (old : Place) (bytes : List ℕ) (new : Place) (r
 abbrev pub HeaderAnswers : List ℕ → Place → List ℕ → Place → List ℕ → Result Unit HeaderFault → Type 0
 HeaderAnswers name old bytes new rest (Ok u) = Says (header_line name) tt old bytes new rest
 HeaderAnswers name old bytes new rest (Err (Syntax r)) = Breaks (header_line name) r old bytes new ⊎ (BehindCut r old bytes ⊎ Headless r old bytes new rest)
-HeaderAnswers name old bytes new rest (Err Read) = ⊤
+HeaderAnswers name old bytes new rest (Err Read) = StopsInOrBefore old bytes new rest
 
 -- the same fault of a header's words, none of which takes memory
 abbrev pub SameFault : LineFault → HeaderFault → Type 0

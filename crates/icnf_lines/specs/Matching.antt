@@ -1,5 +1,5 @@
 -- What holding a line of the interaction against the proof's event answers.
-use Rattle.std.specs.Prelude.{◌≡◌, ℕ, ◌⊎◌, ⊤, List, Option, Some, None, Ok, Err, slice_get}
+use Rattle.std.specs.Prelude.{◌≡◌, ℕ, ◌⊎◌, List, Option, Some, None, Ok, Err, slice_get}
 use Rattle.std.specs.declared.result.Result.{Result}
 use Rattle.session_rules.specs.declared.Event.{Event}
 use Rattle.session_rules.specs.declared.Rule.{Rule}
@@ -7,7 +7,7 @@ use Rattle.session_rules.specs.Reading.{icnf_line}
 use Rattle.session_rules.specs.Pair.{pair_faults}
 use Rattle.slice_tokens.specs.Place.{Place}
 use Rattle.slice_tokens.specs.Calls.{AtEnd}
-use Rattle.line_reading.specs.Whole.{Says, Breaks, BehindCut}
+use Rattle.line_reading.specs.Whole.{Says, Breaks, BehindCut, StopsInOrBefore}
 use Rattle.icnf_lines.specs.declared.matching.Match.{Match}
 use Rattle.icnf_lines.specs.declared.matching.Match.TheVariants.{Agrees, Ended, Differs}
 use Rattle.icnf_lines.specs.declared.matching.MatchFault.{MatchFault}
@@ -25,4 +25,4 @@ Matches e qs old bytes new rest (Ok Agrees) = Meets e qs None old bytes new rest
 Matches e qs old bytes new rest (Ok Ended) = AtEnd old bytes new rest
 Matches e qs old bytes new rest (Ok (Differs r)) = Meets e qs (Some r) old bytes new rest
 Matches e qs old bytes new rest (Err (Syntax r)) = Breaks icnf_line r old bytes new ⊎ BehindCut r old bytes
-Matches e qs old bytes new rest (Err Read) = ⊤
+Matches e qs old bytes new rest (Err Read) = StopsInOrBefore old bytes new rest

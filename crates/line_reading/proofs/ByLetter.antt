@@ -14,7 +14,8 @@ use Rattle.session_rules.specs.Lines.{Line, judged_words}
 use Rattle.session_rules.specs.Reading.{Fault, wrong, ◌>>=◌, Part, letter_of, by_letter, of_whole_line, of_cut_line, value_of, whole, literal_list, id_list, status_word, of_literals, of_ids, of_status}
 use Rattle.slice_tokens.specs.Place.{Place, WhereTold, present, later}
 use Rattle.slice_tokens.specs.Due.{known_words}
-use Rattle.line_reading.specs.Whole.{of_line, Tells, ReadsRest, literals_rest, ids_rest, status_rest, Says, LineAnswers, Entered, NoLetterIn, Enters}
+use Rattle.slice_tokens.specs.Calls.{SameLater}
+use Rattle.line_reading.specs.Whole.{of_line, Tells, ReadsRest, literals_rest, ids_rest, status_rest, Says, StandsInLine, LineAnswers, Entered, NoLetterIn, Enters}
 use Rattle.line_reading.proofs.Collecting.{told_then}
 use Rattle.line_reading.proofs.Resting.{mapped, mapped_ok, mapped_err}
 
@@ -71,15 +72,19 @@ module _ {A : Type 0} (at : Letter → List (List ℕ) → Result A Fault) (none
     last = k.behind.last ∙ e.last;
   }
 
-  breaks_by : (letter : Letter) (fault : LineFault) (o p q : Place) (t u v : List ℕ) → q.line ≡ p.line → Entered letter o t p u → Tells (of_line (present p u).cut (at letter (known_words (present p u)))) (Err fault)
-      → LineAnswers (by_letter at) o t q v (Err fault)
-  breaks_by letter (Syntax r) o p q t u v stays e k = inl (record { line = e.line; more = later p u; lines = e.lines; rule = said letter o p t u e ∙ k; number = e.number ∙ sym stays })
-  breaks_by letter Read o p q t u v stays e k = tt
-  breaks_by letter Memory o p q t u v stays e k = tt
+  -- the window is still in the line that was entered
+  stands_in : (letter : Letter) (o p q : Place) (t u v : List ℕ) → q.line ≡ p.line → Entered letter o t p u → SameLater p u q v → StandsInLine o t q v
+  stands_in letter o p q t u v stays e b = record { line = e.line; lines = e.lines ∙ ap (λ ls. e.line ∷ ls) (sym b.later); number = e.number ∙ sym stays; cut = b.cut ∙ e.cut; last = b.last ∙ e.last }
+
+  breaks_by : (letter : Letter) (fault : LineFault) (o p q : Place) (t u v : List ℕ) → q.line ≡ p.line → Entered letter o t p u → SameLater p u q v
+      → Tells (of_line (present p u).cut (at letter (known_words (present p u)))) (Err fault) → LineAnswers (by_letter at) o t q v (Err fault)
+  breaks_by letter (Syntax r) o p q t u v stays e b k = inl (record { line = e.line; more = later p u; lines = e.lines; rule = said letter o p t u e ∙ k; number = e.number ∙ sym stays })
+  breaks_by letter Read o p q t u v stays e b k = inl (stands_in letter o p q t u v stays e b)
+  breaks_by letter Memory o p q t u v stays e b k = stands_in letter o p q t u v stays e b
 
   pub line_fails : (letter : Letter) (fault : LineFault) (o p q : Place) (t u v : List ℕ) → q.line ≡ p.line → Entered letter o t p u → ReadsRest (at letter) (Err fault) p u q v
       → LineAnswers (by_letter at) o t q v (Err fault)
-  line_fails letter fault o p q t u v stays e k = breaks_by letter fault o p q t u v stays e k.answer
+  line_fails letter fault o p q t u v stays e k = breaks_by letter fault o p q t u v stays e k.behind k.answer
 
   no_letter_breaks : (line : Line) (r : Rule) → NoLetterIn line r → value_of (by_letter at) line ≡ Err r
   no_letter_breaks line r (inl n) = begun line n.0 n.1 n.3 n.4 ∙ ap (λ l. of_line line.cut (at l n.1)) n.2 ∙ ap (of_line line.cut) (none n.1) ∙ letter_rule line.cut ∙ ap (λ z. Err z) (sym n.5)
@@ -93,8 +98,8 @@ module _ {A : Type 0} (at : Letter → List (List ℕ) → Result A Fault) (none
   pub line_unentered : (fault : LineFault) (o q : Place) (t v : List ℕ) → Enters o t q v (Err fault) → LineAnswers (by_letter at) o t q v (Err fault)
   line_unentered (Syntax r) o q t v (inl u) = inl (record { line = u.line; more = u.more; lines = u.lines; rule = no_letter_breaks u.line r u.reason; number = u.number })
   line_unentered (Syntax r) o q t v (inr b) = inr b
-  line_unentered Read o q t v h = tt
-  line_unentered Memory o q t v h = tt
+  line_unentered Read o q t v h = h
+  line_unentered Memory o q t v h = h
 
 -- ---- Where the bytes may be told
 

@@ -13,12 +13,12 @@ use Rattle.session_rules.specs.Lines.{has_content, judged_words, without_cut_wor
 use Rattle.session_rules.specs.Reading.{Fault, wrong, missing, letter_of}
 use Rattle.slice_tokens.specs.Place.{Place, WhereTold, present, later}
 use Rattle.slice_tokens.specs.Due.{known_words}
-use Rattle.slice_tokens.specs.Calls.{InLine}
+use Rattle.slice_tokens.specs.Calls.{SameLater, InLine}
 use Rattle.line_reading.specs.Parts.{PartAnswers, fault_rule, ReadsPart, word_part, word_or_fault}
 use Rattle.line_reading.specs.Kinds.{letter_says, letter_or_rule}
 use Rattle.line_reading.proofs.LongWords.{long_letter}
 use Rattle.line_reading.proofs.Collecting.{told_then}
-use Rattle.line_reading.specs.Whole.{Entered, Unentered, Enters}
+use Rattle.line_reading.specs.Whole.{StandsInLine, Entered, Unentered, Enters}
 
 -- a letter as the first word
 abbrev letter_part : List (List ℕ) → Result (Letter × List (List ℕ)) Fault
@@ -113,15 +113,19 @@ module _ (o p q : Place) (t u v : List ℕ) (stays : q.line ≡ p.line) (i : InL
       judged_is : judged_words (present p u) ≡ known_words (present p u)
       judged_is = ap (λ c. if c then known_words (present p u) else []) i.content
 
+  -- the window is still in the line that came next
+  stands_in : SameLater p u q v → StandsInLine o t q v
+  stands_in k = record { line = present p u; lines = i.lines ∙ ap (λ ls. present p u ∷ ls) (sym k.later); number = i.number ∙ sym stays; cut = k.cut ∙ i.cut; last = k.last ∙ i.last }
+
   by_fault : (e : LineFault) (a : Result (Letter × List (List ℕ)) Fault) → letter_part (known_words (present p u)) ≡ a → (present q v).cut ≡ (present p u).cut
-      → PartAnswers a (present q v) (Err e) → Enters o t q v (Err e)
-  by_fault (Syntax r) (Ok m) h c k = absurd k
-  by_fault (Syntax r) (Err f) h c k = inl (subst (λ z. Unentered z o t q) (sym (k ∙ ap (λ b. fault_rule b f) c)) (unentered_by f h))
-  by_fault Read a h c k = tt
-  by_fault Memory a h c k = tt
+      → SameLater p u q v → PartAnswers a (present q v) (Err e) → Enters o t q v (Err e)
+  by_fault (Syntax r) (Ok m) h c b k = absurd k
+  by_fault (Syntax r) (Err f) h c b k = inl (subst (λ z. Unentered z o t q) (sym (k ∙ ap (λ b. fault_rule b f) c)) (unentered_by f h))
+  by_fault Read a h c b k = inl (stands_in b)
+  by_fault Memory a h c b k = stands_in b
 
   pub unentered : (e : LineFault) → ReadsPart letter_part (Err e) p u q v → Enters o t q v (Err e)
-  unentered e k = by_fault e (letter_part (known_words (present p u))) refl k.line.cut k.answer
+  unentered e k = by_fault e (letter_part (known_words (present p u))) refl k.line.cut k.behind k.answer
 
 -- ---- Where the bytes may be told
 

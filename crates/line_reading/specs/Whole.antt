@@ -13,7 +13,7 @@ use Rattle.session_rules.specs.Lines.{Line, judged_words}
 use Rattle.session_rules.specs.Reading.{Fault, letter_of, ◌>>=◌, of_whole_line, of_cut_line, value_of, whole, own_id, literal_list, id_list, of_literals, of_ids, of_status}
 use Rattle.slice_tokens.specs.Place.{Place, present, later, is_cut, last_line}
 use Rattle.slice_tokens.specs.Due.{known_words}
-use Rattle.slice_tokens.specs.Calls.{SameLater, AtEnd}
+use Rattle.slice_tokens.specs.Calls.{SameLater, SameContent, AtEnd}
 
 -- what words say in a line that is cut, or isn't: a value, or a rule
 abbrev pub of_line : {A : Type 0} → Bool → Result A Fault → Result A Rule
@@ -76,13 +76,25 @@ pub record BehindCut (r : Rule) (old : Place) (bytes : List ℕ) : Type 0 where
   pub cut : is_cut old bytes ≡ true
   pub rule : r ≡ rules.Length
 
+-- the window stands in the line that came next, and those behind it are still to come
+pub record StandsInLine (old : Place) (bytes : List ℕ) (new : Place) (rest : List ℕ) : Type 0 where
+  pub line : Line
+  pub lines : later old bytes ≡ line ∷ later new rest
+  pub number : line.number ≡ new.line
+  pub cut : is_cut new rest ≡ is_cut old bytes
+  pub last : last_line new rest ≡ last_line old bytes
+
+-- where a failed read leaves the window: in the line that came next, or before it
+abbrev pub StopsInOrBefore : Place → List ℕ → Place → List ℕ → Type 0
+StopsInOrBefore old bytes new rest = StandsInLine old bytes new rest ⊎ SameContent old bytes new rest
+
 -- what reading the next line answers
 abbrev pub LineAnswers : {A : Type 0} → (List (List ℕ) → Result A Fault) → Place → List ℕ → Place → List ℕ → Result (Option A) LineFault → Type 0
 LineAnswers read old bytes new rest (Ok None) = AtEnd old bytes new rest
 LineAnswers read old bytes new rest (Ok (Some x)) = Says read x old bytes new rest
 LineAnswers read old bytes new rest (Err (Syntax r)) = Breaks read r old bytes new ⊎ BehindCut r old bytes
-LineAnswers read old bytes new rest (Err Read) = ⊤
-LineAnswers read old bytes new rest (Err Memory) = ⊤
+LineAnswers read old bytes new rest (Err Read) = StopsInOrBefore old bytes new rest
+LineAnswers read old bytes new rest (Err Memory) = StandsInLine old bytes new rest
 
 -- ---- The letter of a line
 
@@ -116,5 +128,5 @@ abbrev pub Enters : Place → List ℕ → Place → List ℕ → Result (Option
 Enters old bytes new rest (Ok None) = AtEnd old bytes new rest
 Enters old bytes new rest (Ok (Some letter)) = Entered letter old bytes new rest
 Enters old bytes new rest (Err (Syntax r)) = Unentered r old bytes new ⊎ BehindCut r old bytes
-Enters old bytes new rest (Err Read) = ⊤
-Enters old bytes new rest (Err Memory) = ⊤
+Enters old bytes new rest (Err Read) = StopsInOrBefore old bytes new rest
+Enters old bytes new rest (Err Memory) = StandsInLine old bytes new rest
