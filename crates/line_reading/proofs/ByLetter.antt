@@ -1,5 +1,5 @@
 -- A whole line, from its letter and what stands behind it.
-use Rattle.std.proofs.Common.{◌≡◌, ℕ, Bool, true, false, if◌then◌else◌, List, [], ◌∷◌, Some, None, Ok, Err, refl, sym, ap, ◌∙◌, subst, inl, inr}
+use Rattle.std.proofs.Common.{◌≡◌, ℕ, Bool, true, false, if◌then◌else◌, List, [], ◌∷◌, Some, None, Ok, Err, refl, sym, ap, ◌∙◌, subst, inl, inr, arith}
 use mathlib.Core.Path.{fun_ext}
 use Rattle.std.specs.declared.option.Option.{Option}
 use Rattle.std.specs.declared.result.Result.{Result}
@@ -12,11 +12,12 @@ use Rattle.session_rules.specs.declared.LineFault.{LineFault}
 use Rattle.session_rules.specs.declared.LineFault.TheVariants.{Syntax, Read, Memory}
 use Rattle.session_rules.specs.Lines.{Line, judged_words}
 use Rattle.session_rules.specs.Reading.{Fault, wrong, ◌>>=◌, Part, letter_of, by_letter, of_whole_line, of_cut_line, value_of, whole, literal_list, id_list, status_word, of_literals, of_ids, of_status}
-use Rattle.slice_tokens.specs.Place.{Place, WhereTold, present, later}
+use Rattle.slice_tokens.specs.Place.{Place, present, later}
 use Rattle.slice_tokens.specs.Due.{known_words}
 use Rattle.slice_tokens.specs.Calls.{SameLater}
 use Rattle.line_reading.specs.Whole.{of_line, Tells, ReadsRest, literals_rest, ids_rest, status_rest, Says, StandsInLine, LineAnswers, Entered, NoLetterIn, Enters}
-use Rattle.line_reading.proofs.Collecting.{told_then}
+use Rattle.line_reading.specs.Readers.{Reader, RestRead, LetterRead, LineRead}
+use Rattle.line_reading.proofs.Joined.{told_then, told_map, moves_trans, rose_later, same_fault, in_line_map}
 use Rattle.line_reading.proofs.Resting.{mapped, mapped_ok, mapped_err}
 
 -- ---- A letter's rest as a value
@@ -101,20 +102,13 @@ module _ {A : Type 0} (at : Letter → List (List ℕ) → Result A Fault) (none
   line_unentered Read o q t v h = h
   line_unentered Memory o q t v h = h
 
--- ---- Where the bytes may be told
-
-pub told_map : (a b : Option (List ℕ)) (Q R : List ℕ → List ℕ → Type 0) → WhereTold a b Q → ((t u : List ℕ) → Q t u → R t u) → WhereTold a b R
-told_map None b Q R q step = tt
-told_map (Some t) None Q R q step = q
-told_map (Some t) (Some u) Q R q step = step t u q
-
 -- the rest of a line as another value of the same words
 module _ {A B : Type 0} (says : List (List ℕ) → Result A Fault) (other : List (List ℕ) → Result B Fault) (f : A → B) (same : (ws : List (List ℕ)) → other ws ≡ mapped f (says ws)) where
-  pub rest_as : (x : A) (a b : Option (List ℕ)) (p q : Place) → WhereTold a b (λ t u. ReadsRest says (Ok x) p t q u) → WhereTold a b (λ t u. ReadsRest other (Ok (f x)) p t q u)
-  rest_as x a b p q h = told_map a b _ _ h (λ t u k. mapped_ok f says other same x p q t u k)
+  pub rest_as : (x : A) (o n : Reader) → RestRead says o n (Ok x) → RestRead other o n (Ok (f x))
+  rest_as x o n h = in_line_map (ReadsRest says (Ok x)) (ReadsRest other (Ok (f x))) _ _ o n (λ e. cc e) h (λ t u k. mapped_ok f says other same x o.place n.place t u k)
 
-  pub rest_fails : (e : LineFault) (a b : Option (List ℕ)) (p q : Place) → WhereTold a b (λ t u. ReadsRest says (Err e) p t q u) → WhereTold a b (λ t u. ReadsRest other (Err e) p t q u)
-  rest_fails e a b p q h = told_map a b _ _ h (λ t u k. mapped_err f says other same e p q t u k)
+  pub rest_fails : (e : LineFault) (o n : Reader) → RestRead says o n (Err e) → RestRead other o n (Err e)
+  rest_fails e o n h = in_line_map (ReadsRest says (Err e)) (ReadsRest other (Err e)) _ _ o n (same_fault e Read) h (λ t u k. mapped_err f says other same e o.place n.place t u k)
 
 -- a line that is read by its letter
 module _ {A : Type 0} (at : Letter → List (List ℕ) → Result A Fault) (none : (ws : List (List ℕ)) → at letters.NoLetter ws ≡ Err (wrong rules.Letter))
@@ -122,13 +116,29 @@ module _ {A : Type 0} (at : Letter → List (List ℕ) → Result A Fault) (none
   as_read : (r : Result (Option A) LineFault) (o q : Place) (t v : List ℕ) → LineAnswers (by_letter at) o t q v r → LineAnswers read o t q v r
   as_read r o q t v h = subst (λ f. LineAnswers f o t q v r) (fun_ext same) h
 
-  pub line_read : (letter : Letter) (x : A) (a b c : Option (List ℕ)) (o p q : Place) → q.line ≡ p.line → WhereTold a b (λ t u. Entered letter o t p u)
-      → WhereTold b c (λ u v. ReadsRest (at letter) (Ok x) p u q v) → WhereTold a c (λ t v. LineAnswers read o t q v (Ok (Some x)))
-  line_read letter x a b c o p q stays h k = told_then a b c _ _ _ h k (λ t u v e j. as_read (Ok (Some x)) o q t v (line_says at none letter x o p q t u v stays e j))
+  pub line_read : (letter : Letter) (x : A) (o m n : Reader) → LetterRead o m (Ok (Some letter)) → RestRead (at letter) m n (Ok x) → LineRead read o n (Ok (Some x))
+  line_read letter x o m n h k = record {
+    moves = moves_trans _ _ _ h.moves k.stays.moves;
+    progress = λ _. omega (arith, h.progress refl, k.stays.moves.passed);
+    told = told_then _ _ _ _ _ _ h.told k.told (λ t u v e j. as_read (Ok (Some x)) o.place n.place t v (line_says at none letter x o.place m.place n.place t u v k.stays.line e j));
+    count = omega (arith, h.count, k.count);
+    read = λ e. cc e;
+  }
 
-  pub line_broken : (letter : Letter) (fault : LineFault) (a b c : Option (List ℕ)) (o p q : Place) → q.line ≡ p.line → WhereTold a b (λ t u. Entered letter o t p u)
-      → WhereTold b c (λ u v. ReadsRest (at letter) (Err fault) p u q v) → WhereTold a c (λ t v. LineAnswers read o t q v (Err fault))
-  line_broken letter fault a b c o p q stays h k = told_then a b c _ _ _ h k (λ t u v e j. as_read (Err fault) o q t v (line_fails at none letter fault o p q t u v stays e j))
+  pub line_broken : (letter : Letter) (fault : LineFault) (o m n : Reader) → LetterRead o m (Ok (Some letter)) → RestRead (at letter) m n (Err fault) → LineRead read o n (Err fault)
+  line_broken letter fault o m n h k = record {
+    moves = moves_trans _ _ _ h.moves k.stays.moves;
+    progress = tt;
+    told = told_then _ _ _ _ _ _ h.told k.told (λ t u v e j. as_read (Err fault) o.place n.place t v (line_fails at none letter fault o.place m.place n.place t u v k.stays.line e j));
+    count = omega (arith, h.count, k.count);
+    read = λ e. rose_later _ _ _ h.count (k.read (same_fault fault Read e));
+  }
 
-  pub line_not_entered : (fault : LineFault) (a c : Option (List ℕ)) (o q : Place) → WhereTold a c (λ t v. Enters o t q v (Err fault)) → WhereTold a c (λ t v. LineAnswers read o t q v (Err fault))
-  line_not_entered fault a c o q h = told_map a c _ _ h (λ t v e. as_read (Err fault) o q t v (line_unentered at none fault o q t v e))
+  pub line_not_entered : (fault : LineFault) (o n : Reader) → LetterRead o n (Err fault) → LineRead read o n (Err fault)
+  line_not_entered fault o n h = record {
+    moves = h.moves;
+    progress = tt;
+    told = told_map _ _ _ _ h.told (λ t v e. as_read (Err fault) o.place n.place t v (line_unentered at none fault o.place n.place t v e));
+    count = h.count;
+    read = λ e. h.read (same_fault fault Read e);
+  }

@@ -1,3 +1,4 @@
+pub mod Joined
 pub mod Opening
 pub mod LongWords
 pub mod Collecting

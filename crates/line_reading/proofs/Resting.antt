@@ -8,11 +8,13 @@ use Rattle.session_rules.specs.declared.LineFault.{LineFault}
 use Rattle.session_rules.specs.declared.LineFault.TheVariants.{Syntax, Read, Memory}
 use Rattle.session_rules.specs.Lines.{Line}
 use Rattle.session_rules.specs.Reading.{Fault, wrong, missing, ◌>>=◌, Part, whole, own_id, literal_list, id_list}
-use Rattle.slice_tokens.specs.Place.{Place, WhereTold, present}
+use Rattle.slice_tokens.specs.Place.{Place, present}
 use Rattle.slice_tokens.specs.Due.{known_words}
 use Rattle.line_reading.specs.Parts.{PartAnswers, ReadsPart, end_fault, EndAnswers, EndsLine}
 use Rattle.line_reading.specs.Whole.{of_line, Tells, ReadsRest, literals_rest, ids_rest, id_literals_rest, id_literals_ids_rest, literals_ids_rest}
-use Rattle.line_reading.proofs.Collecting.{later_trans, told_then}
+use Rattle.line_reading.specs.Readers.{Reader, PartRead, RestRead}
+use Rattle.line_reading.proofs.Joined.{same_fault, in_line_then}
+use Rattle.line_reading.proofs.Collecting.{later_trans}
 
 -- ---- A part, and what comes behind it
 
@@ -143,17 +145,15 @@ with_literals ls ws = list_mapped (both_lists ls) (id_list ws)
 
 -- ---- Faults behind a part that was read
 
-pub fault_behind_literals : (ls : List ℕ) (e : LineFault) (a b c : Option (List ℕ)) (p q s : Place) → WhereTold a b (λ t u. ReadsPart literal_list (Ok ls) p t q u)
-    → WhereTold b c (λ u v. ReadsRest ids_rest (Err e) q u s v) → WhereTold a c (λ t v. ReadsRest literals_ids_rest (Err e) p t s v)
-fault_behind_literals ls e a b c p q s h k = told_then a b c _ _ _ h k (λ t u v i j.
-    rest_then literal_list (λ ls ws. id_list ws >>= λ hs. whole (both_lists ls hs.0) hs.1) ls (Err e) p q s t u v i
-    (mapped_err (both_lists ls) ids_rest (λ ws. id_list ws >>= λ hs. whole (both_lists ls hs.0) hs.1) (with_literals ls) e q s u v j))
+pub fault_behind_literals : (ls : List ℕ) (e : LineFault) (o m n : Reader) → PartRead literal_list o m (Ok ls) → RestRead ids_rest m n (Err e) → RestRead literals_ids_rest o n (Err e)
+fault_behind_literals ls e o m n h k = in_line_then _ _ (ReadsRest literals_ids_rest (Err e)) _ _ _ o m n (same_fault e Read) h k (λ t u v i j.
+    rest_then literal_list (λ ls ws. id_list ws >>= λ hs. whole (both_lists ls hs.0) hs.1) ls (Err e) o.place m.place n.place t u v i
+    (mapped_err (both_lists ls) ids_rest (λ ws. id_list ws >>= λ hs. whole (both_lists ls hs.0) hs.1) (with_literals ls) e m.place n.place u v j))
 
-pub fault_behind_id : (i : ℕ) (e : LineFault) (a b c : Option (List ℕ)) (p q s : Place) → WhereTold a b (λ t u. ReadsPart own_id (Ok i) p t q u)
-    → WhereTold b c (λ u v. ReadsRest literals_rest (Err e) q u s v) → WhereTold a c (λ t v. ReadsRest id_literals_rest (Err e) p t s v)
-fault_behind_id i e a b c p q s h k = told_then a b c _ _ _ h k (λ t u v m j.
-    rest_then own_id (λ i ws. literal_list ws >>= λ ls. whole (id_with i ls.0) ls.1) i (Err e) p q s t u v m
-    (mapped_err (id_with i) literals_rest (λ ws. literal_list ws >>= λ ls. whole (id_with i ls.0) ls.1) (with_id i) e q s u v j))
+pub fault_behind_id : (i : ℕ) (e : LineFault) (o m n : Reader) → PartRead own_id o m (Ok i) → RestRead literals_rest m n (Err e) → RestRead id_literals_rest o n (Err e)
+fault_behind_id i e o m n h k = in_line_then _ _ (ReadsRest id_literals_rest (Err e)) _ _ _ o m n (same_fault e Read) h k (λ t u v p j.
+    rest_then own_id (λ i ws. literal_list ws >>= λ ls. whole (id_with i ls.0) ls.1) i (Err e) o.place m.place n.place t u v p
+    (mapped_err (id_with i) literals_rest (λ ws. literal_list ws >>= λ ls. whole (id_with i ls.0) ls.1) (with_id i) e m.place n.place u v j))
 
 -- the rest behind an id, of two lists
 lists_behind : ℕ → List (List ℕ) → Result (ℕ × List ℕ × List ℕ) Fault
@@ -172,9 +172,8 @@ lists_mapped i ws = by_literals (literal_list ws)
     by_literals (Ok m) = by_ids m.0 (id_list m.1)
     by_literals (Err e) = refl
 
-pub fault_behind_id_lists : (i : ℕ) (e : LineFault) (a b c : Option (List ℕ)) (p q s : Place) → WhereTold a b (λ t u. ReadsPart own_id (Ok i) p t q u)
-    → WhereTold b c (λ u v. ReadsRest literals_ids_rest (Err e) q u s v) → WhereTold a c (λ t v. ReadsRest id_literals_ids_rest (Err e) p t s v)
+pub fault_behind_id_lists : (i : ℕ) (e : LineFault) (o m n : Reader) → PartRead own_id o m (Ok i) → RestRead literals_ids_rest m n (Err e) → RestRead id_literals_ids_rest o n (Err e)
 unfolding lists_behind
-fault_behind_id_lists i e a b c p q s h k = told_then a b c _ _ _ h k (λ t u v m j.
-    rest_then own_id (λ i ws. literal_list ws >>= λ ls. id_list ls.1 >>= λ hs. whole (with_first i (both_lists ls.0 hs.0)) hs.1) i (Err e) p q s t u v m
-    (mapped_err (with_first i) literals_ids_rest (lists_behind i) (lists_mapped i) e q s u v j))
+fault_behind_id_lists i e o m n h k = in_line_then _ _ (ReadsRest id_literals_ids_rest (Err e)) _ _ _ o m n (same_fault e Read) h k (λ t u v p j.
+    rest_then own_id (λ i ws. literal_list ws >>= λ ls. id_list ls.1 >>= λ hs. whole (with_first i (both_lists ls.0 hs.0)) hs.1) i (Err e) o.place m.place n.place t u v p
+    (mapped_err (with_first i) literals_ids_rest (lists_behind i) (lists_mapped i) e m.place n.place u v j))

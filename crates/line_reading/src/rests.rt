@@ -1,10 +1,8 @@
 // What stands in a line behind its letter, read to the line's end.
-ghost use Rattle.std.specs.Prelude.{◌≡◌, ◌≤◌, IsErrOf};
-ghost use Rattle.outside.specs.Faults.{Rose};
+ghost use Rattle.std.specs.Prelude.{IsErrOf};
 ghost use Rattle.session_rules.specs.declared.LineFault.{LineFault};
-ghost use Rattle.slice_tokens.specs.Place.{ahead, WhereTold};
-ghost use Rattle.line_reading.specs.Parts.{Stays};
-ghost use Rattle.line_reading.specs.Whole.{ReadsRest, literals_rest, ids_rest, status_rest, id_literals_rest, id_literals_ids_rest, literals_ids_rest};
+ghost use Rattle.line_reading.specs.Readers.{reader, RestRead};
+ghost use Rattle.line_reading.specs.Whole.{literals_rest, ids_rest, status_rest, id_literals_rest, id_literals_ids_rest, literals_ids_rest};
 
 use crate::lists::{read_id, read_ids, read_literals, read_status};
 use crate::spare::Spare;
@@ -20,11 +18,9 @@ pub fn literals_rest<S: Source>(
     window: &mut Window,
     src: &mut S,
 ) -> Result<Lits, LineFault>
-    ensures stays { Stays window.old window.new }
-    ensures told { WhereTold (ahead window.old (S.left src.old)) (ahead window.new (S.left src.new))
-        (λ bytes rest. ReadsRest literals_rest result window.old bytes window.new rest) }
-    ensures count { S.faults src.old ≤ S.faults src.new }
-    ensures read { IsErrOf result LineFault.Read → Rose (S.faults src.old) (S.faults src.new) }
+    ensures rest {
+        let at = reader S.left S.faults in
+        RestRead literals_rest (at window.old src.old) (at window.new src.new) result }
 {
     let lits = read_literals(spare, window, src)?;
     end_line(window, src)?;
@@ -37,11 +33,9 @@ pub fn ids_rest<S: Source>(
     window: &mut Window,
     src: &mut S,
 ) -> Result<Ids, LineFault>
-    ensures stays { Stays window.old window.new }
-    ensures told { WhereTold (ahead window.old (S.left src.old)) (ahead window.new (S.left src.new))
-        (λ bytes rest. ReadsRest ids_rest result window.old bytes window.new rest) }
-    ensures count { S.faults src.old ≤ S.faults src.new }
-    ensures read { IsErrOf result LineFault.Read → Rose (S.faults src.old) (S.faults src.new) }
+    ensures rest {
+        let at = reader S.left S.faults in
+        RestRead ids_rest (at window.old src.old) (at window.new src.new) result }
 {
     let ids = read_ids(spare, window, src)?;
     end_line(window, src)?;
@@ -50,11 +44,9 @@ pub fn ids_rest<S: Source>(
 
 /// A status.
 pub fn status_rest<S: Source>(window: &mut Window, src: &mut S) -> Result<StatusWord, LineFault>
-    ensures stays { Stays window.old window.new }
-    ensures told { WhereTold (ahead window.old (S.left src.old)) (ahead window.new (S.left src.new))
-        (λ bytes rest. ReadsRest status_rest result window.old bytes window.new rest) }
-    ensures count { S.faults src.old ≤ S.faults src.new }
-    ensures read { IsErrOf result LineFault.Read → Rose (S.faults src.old) (S.faults src.new) }
+    ensures rest {
+        let at = reader S.left S.faults in
+        RestRead status_rest (at window.old src.old) (at window.new src.new) result }
     ensures memory { IsErrOf result LineFault.Memory → ⊥ }
 {
     let status = read_status(window, src)?;
@@ -68,11 +60,9 @@ pub fn id_literals_rest<S: Source>(
     window: &mut Window,
     src: &mut S,
 ) -> Result<(Id, Lits), LineFault>
-    ensures stays { Stays window.old window.new }
-    ensures told { WhereTold (ahead window.old (S.left src.old)) (ahead window.new (S.left src.new))
-        (λ bytes rest. ReadsRest id_literals_rest result window.old bytes window.new rest) }
-    ensures count { S.faults src.old ≤ S.faults src.new }
-    ensures read { IsErrOf result LineFault.Read → Rose (S.faults src.old) (S.faults src.new) }
+    ensures rest {
+        let at = reader S.left S.faults in
+        RestRead id_literals_rest (at window.old src.old) (at window.new src.new) result }
 {
     let id = read_id(window, src)?;
     let lits = literals_rest(spare, window, src)?;
@@ -85,11 +75,9 @@ pub fn id_literals_ids_rest<S: Source>(
     window: &mut Window,
     src: &mut S,
 ) -> Result<(Id, Lits, Ids), LineFault>
-    ensures stays { Stays window.old window.new }
-    ensures told { WhereTold (ahead window.old (S.left src.old)) (ahead window.new (S.left src.new))
-        (λ bytes rest. ReadsRest id_literals_ids_rest result window.old bytes window.new rest) }
-    ensures count { S.faults src.old ≤ S.faults src.new }
-    ensures read { IsErrOf result LineFault.Read → Rose (S.faults src.old) (S.faults src.new) }
+    ensures rest {
+        let at = reader S.left S.faults in
+        RestRead id_literals_ids_rest (at window.old src.old) (at window.new src.new) result }
 {
     let id = read_id(window, src)?;
     let (lits, ids) = literals_ids_rest(spare, window, src)?;
@@ -102,11 +90,9 @@ pub fn literals_ids_rest<S: Source>(
     window: &mut Window,
     src: &mut S,
 ) -> Result<(Lits, Ids), LineFault>
-    ensures stays { Stays window.old window.new }
-    ensures told { WhereTold (ahead window.old (S.left src.old)) (ahead window.new (S.left src.new))
-        (λ bytes rest. ReadsRest literals_ids_rest result window.old bytes window.new rest) }
-    ensures count { S.faults src.old ≤ S.faults src.new }
-    ensures read { IsErrOf result LineFault.Read → Rose (S.faults src.old) (S.faults src.new) }
+    ensures rest {
+        let at = reader S.left S.faults in
+        RestRead literals_ids_rest (at window.old src.old) (at window.new src.new) result }
 {
     let lits = read_literals(spare, window, src)?;
     let ids = ids_rest(spare, window, src)?;
