@@ -4,12 +4,12 @@
 ghost use Rattle.std.specs.Prelude.{◌≡◌, ◌≤◌, ℕ, List, [], length, if◌then◌else◌, All, IsErrOf, Option, Ok, false};
 ghost use Rattle.std.specs.Bool.{OnTrue};
 ghost use Rattle.std.specs.Option.{option_or};
-ghost use Rattle.outside.specs.Faults.{Rose};
 ghost use Rattle.session_rules.specs.declared.LineFault.{LineFault};
 ghost use Rattle.session_rules.specs.History.{first_missing};
 ghost use Rattle.session_rules.specs.Reading.{literal_list};
-ghost use Rattle.slice_tokens.specs.Place.{Place, ahead, WhereTold};
+ghost use Rattle.slice_tokens.specs.Place.{ahead, WhereTold};
 ghost use Rattle.line_reading.specs.Parts.{ReadsPart, Stays};
+ghost use Rattle.line_reading.specs.Readers.{Reader, reader, PartRead};
 ghost use Rattle.icnf_lines.specs.Marks.{HasPlace, IsBlank};
 ghost use Rattle.icnf_lines.specs.Partners as partners;
 
@@ -50,11 +50,10 @@ fn pass_same(window: &mut Window, held: &[Lit], assumed: &[Lit]) -> bool
 
 /// Reads the end of a line whose literals are an event's, where nothing is assumed.
 fn meet_same<S: Source>(window: &mut Window, src: &mut S, held: &[Lit]) -> Result<Met, LineFault>
-    ensures stays { Stays window.old window.new }
-    ensures told { (o : Place) (before : Option (List ℕ)) → WhereTold (ahead o before) (ahead window.old (S.left src.old)) (λ t u. ReadsPart literal_list (Ok held.now) o t window.old u)
-        → partners.MeetsLiterals held.now [] result o before window.new (S.left src.new) }
-    ensures count { S.faults src.old ≤ S.faults src.new }
-    ensures read { IsErrOf result LineFault.Read → Rose (S.faults src.old) (S.faults src.new) }
+    ensures met {
+        let at = reader S.left S.faults in
+        (start : Reader) → PartRead literal_list start (at window.old src.old) (Ok held.now)
+        → partners.MeetsLiterals held.now [] start (at window.new src.new) result }
     ensures memory { IsErrOf result LineFault.Memory → ⊥ }
 {
     match end_line(window, src) {
@@ -80,11 +79,10 @@ pub(crate) fn meet<S: Source>(
     requires held { All (HasPlace (length table.old)) held.now }
     requires assumed { All (HasPlace (length table.old)) assumed.now }
     requires blank { IsBlank table.old }
-    ensures stays { Stays window.old window.new }
+    ensures met {
+        let at = reader S.left S.faults in
+        partners.MeetsLiterals held.now assumed.now (at window.old src.old) (at window.new src.new) result }
     ensures blank { IsBlank table.new }
-    ensures told { partners.MeetsLiterals held.now assumed.now result window.old (S.left src.old) window.new (S.left src.new) }
-    ensures count { S.faults src.old ≤ S.faults src.new }
-    ensures read { IsErrOf result LineFault.Read → Rose (S.faults src.old) (S.faults src.new) }
     ensures memory { IsErrOf result LineFault.Memory → ⊥ }
 {
     if pass_same(window, held, assumed) {
@@ -119,11 +117,10 @@ fn find_literals<S: Source>(
     src: &mut S,
     table: &mut [Mark],
 ) -> Result<Found, LineFault>
-    ensures stays { Stays window.old window.new }
+    ensures found {
+        let at = reader S.left S.faults in
+        partners.FindsLiterals table.old table.new (at window.old src.old) (at window.new src.new) result }
     ensures kept { partners.KeepsBlank table.old table.new }
-    ensures told { partners.FindsLiterals table.old table.new result window.old (S.left src.old) window.new (S.left src.new) }
-    ensures count { S.faults src.old ≤ S.faults src.new }
-    ensures read { IsErrOf result LineFault.Read → Rose (S.faults src.old) (S.faults src.new) }
     ensures memory { IsErrOf result LineFault.Memory → ⊥ }
 {
     let mut stranger = None;
