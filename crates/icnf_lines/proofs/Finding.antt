@@ -11,12 +11,12 @@ use Rattle.session_rules.specs.History.{first_missing}
 use Rattle.session_rules.specs.declared.LineFault.TheVariants.{Read}
 use Rattle.session_rules.specs.Reading.{Part, literal_list, whole}
 use Rattle.line_reading.specs.Parts.{word_part}
-use Rattle.line_reading.specs.Readers.{Reader, PartRead, RestRead, EndRead}
+use Rattle.line_reading.specs.Readers.{Reader, PartRead, BodyRead, EndRead}
 use Rattle.line_reading.specs.Kinds.{literal_says}
-use Rattle.line_reading.specs.Whole.{ReadsRest, literals_rest}
+use Rattle.line_reading.specs.Whole.{ReadsBody, literals_body}
 use Rattle.line_reading.proofs.Joined.{same_fault, in_line_map, in_line_then}
 use Rattle.line_reading.proofs.Collecting.{literal_list_is, Collecting, collecting_more, collecting_last, collecting_fault}
-use Rattle.line_reading.proofs.Resting.{rest_then, rest_fault, end_then, end_fails}
+use Rattle.line_reading.proofs.WholeBodies.{body_then, body_fault, end_then, end_fails}
 use Rattle.icnf_lines.specs.declared.marks.Mark.{Mark}
 use Rattle.icnf_lines.specs.declared.meeting.Found.{Found}
 use Rattle.icnf_lines.specs.Marks.{mark_at, IsBlank, also_held, also_assumed, also_met, Changes}
@@ -26,16 +26,16 @@ use Rattle.icnf_lines.proofs.Marking.{met_push}
 -- ---- A list, and the line's end
 
 module _ (ls : List ℕ) (o q n : Reader) (read : PartRead literal_list o q (Ok ls)) where
-  list_ended : (y : Unit) → EndRead q n (Ok y) → RestRead literals_rest o n (Ok ls)
-  list_ended y end = in_line_then _ _ (ReadsRest literals_rest (Ok ls)) _ _ _ o q n (λ e. cc e) read end
-      (λ t u v h w. rest_then literal_list (λ ls ws. whole ls ws) ls (Ok ls) o.place q.place n.place t u v h (end_then ls y q.place n.place u v w))
+  list_ended : (y : Unit) → EndRead q n (Ok y) → BodyRead literals_body o n (Ok ls)
+  list_ended y end = in_line_then _ _ (ReadsBody literals_body (Ok ls)) _ _ _ o q n (λ e. cc e) read end
+      (λ t u v h w. body_then literal_list (λ ls ws. whole ls ws) ls (Ok ls) o.place q.place n.place t u v h (end_then ls y q.place n.place u v w))
 
-  list_not_ended : (fault : LineFault) → EndRead q n (Err fault) → RestRead literals_rest o n (Err fault)
-  list_not_ended fault end = in_line_then _ _ (ReadsRest literals_rest (Err fault)) _ _ _ o q n (same_fault fault Read) read end
-      (λ t u v h w. rest_then literal_list (λ ls ws. whole ls ws) ls (Err fault) o.place q.place n.place t u v h (end_fails ls fault q.place n.place u v w))
+  list_not_ended : (fault : LineFault) → EndRead q n (Err fault) → BodyRead literals_body o n (Err fault)
+  list_not_ended fault end = in_line_then _ _ (ReadsBody literals_body (Err fault)) _ _ _ o q n (same_fault fault Read) read end
+      (λ t u v h w. body_then literal_list (λ ls ws. whole ls ws) ls (Err fault) o.place q.place n.place t u v h (end_fails ls fault q.place n.place u v w))
 
-list_broken : (o n : Reader) (fault : LineFault) → PartRead literal_list o n (Err fault) → RestRead literals_rest o n (Err fault)
-list_broken o n fault h = in_line_map _ (ReadsRest literals_rest (Err fault)) _ _ o n (same_fault fault Read) h (λ t u k. rest_fault literal_list (λ ls ws. whole ls ws) fault o.place n.place t u k)
+list_broken : (o n : Reader) (fault : LineFault) → PartRead literal_list o n (Err fault) → BodyRead literals_body o n (Err fault)
+list_broken o n fault h = in_line_map _ (ReadsBody literals_body (Err fault)) _ _ o n (same_fault fault Read) h (λ t u k. body_fault literal_list (λ ls ws. whole ls ws) fault o.place n.place t u k)
 
 -- what the loop over a line's literals keeps, with those so far
 pub record Finding (start now : List Mark) (stranger claim : Option ℕ) (old new : Reader) : Type 0 where
@@ -78,10 +78,10 @@ module _ (start now : List Mark) (stranger claim : Option ℕ) (o p : Reader) (f
       read = list_ended f.literals o q n (collecting_last literal_list literal_says literal_list_is f.literals o p q f.read word) y end;
     }
 
-    pub not_ended : (fault : LineFault) → EndRead q n (Err fault) → RestRead literals_rest o n (Err fault)
+    pub not_ended : (fault : LineFault) → EndRead q n (Err fault) → BodyRead literals_body o n (Err fault)
     not_ended fault end = list_not_ended f.literals o q n (collecting_last literal_list literal_says literal_list_is f.literals o p q f.read word) fault end
 
-  pub not_found : (q : Reader) (fault : LineFault) → PartRead one_literal p q (Err fault) → RestRead literals_rest o q (Err fault)
+  pub not_found : (q : Reader) (fault : LineFault) → PartRead one_literal p q (Err fault) → BodyRead literals_body o q (Err fault)
   not_found q fault word = list_broken o q fault (collecting_fault literal_list literal_says literal_list_is f.literals o p q f.read fault word)
 
 -- ---- A line's literals against an event's and those that are assumed
@@ -133,5 +133,5 @@ module _ (held : List ℕ) (o q n : Reader) (read : PartRead literal_list o q (O
     read = list_ended held o q n read y end;
   }
 
-  pub same_fails : (fault : LineFault) → EndRead q n (Err fault) → RestRead literals_rest o n (Err fault)
+  pub same_fails : (fault : LineFault) → EndRead q n (Err fault) → BodyRead literals_body o n (Err fault)
   same_fails fault end = list_not_ended held o q n read fault end

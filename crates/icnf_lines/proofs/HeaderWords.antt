@@ -14,12 +14,12 @@ use Rattle.slice_tokens.specs.declared.token.TokenFault.{TokenFault}
 use Rattle.slice_tokens.specs.declared.token.TokenFault.TheVariants as tokens
 use Rattle.slice_tokens.specs.Calls.{Moves, AtBound, Reaches}
 use Rattle.line_reading.specs.Parts.{word_or_fault}
-use Rattle.line_reading.specs.Readers.{Reader, to_come, PartRead, RestRead}
-use Rattle.line_reading.specs.Whole.{ReadsRest}
+use Rattle.line_reading.specs.Readers.{Reader, to_come, PartRead, BodyRead}
+use Rattle.line_reading.specs.Whole.{ReadsBody}
 use Rattle.line_reading.specs.Expected.{expected_word, expected_end}
 use Rattle.line_reading.proofs.LongWords.{other_length}
 use Rattle.line_reading.proofs.Joined.{told_map, in_line_map, in_line_then}
-use Rattle.line_reading.proofs.Resting.{with_more, rest_then, rest_fault}
+use Rattle.line_reading.proofs.WholeBodies.{with_more, body_then, body_fault}
 use Rattle.line_reading.proofs.AtBounds.{next_cut}
 use Rattle.icnf_lines.specs.declared.header.HeaderFault.{HeaderFault}
 use Rattle.icnf_lines.specs.declared.header.HeaderFault.TheVariants as headers
@@ -90,28 +90,28 @@ header_is name short (w ∷ x ∷ y ∷ ws) = begun name w (x ∷ y ∷ ws) ∙ 
 
 -- ---- The words to the line's end
 
-as_header : (name : List ℕ) → length name ≤ 32 → (r : Result (Unit {0}) LineFault) (p q : Place) (t u : List ℕ) → ReadsRest (by_words name) r p t q u → ReadsRest (header_line name) r p t q u
-as_header name short r p q t u h = subst (λ f. ReadsRest f r p t q u) (fun_ext (header_is name short)) h
+as_header : (name : List ℕ) → length name ≤ 32 → (r : Result (Unit {0}) LineFault) (p q : Place) (t u : List ℕ) → ReadsBody (by_words name) r p t q u → ReadsBody (header_line name) r p t q u
+as_header name short r p q t u h = subst (λ f. ReadsBody f r p t q u) (fun_ext (header_is name short)) h
 
 -- the rest behind the first word
 behind : (name : List ℕ) → length name ≤ 32 → (x : Unit {0}) (r : Result (Unit {0}) LineFault) (o m n : Reader)
-    → PartRead (expected_word (codes "p") rules.Header) o m (Ok x) → RestRead (behind_first name x) m n r → RestRead (header_line name) o n r
-behind name short x r o m n h k = in_line_then _ _ (ReadsRest (header_line name) r) _ _ r o m n (λ e. e) h k (λ t u v i j.
-    as_header name short r o.place n.place t v (rest_then (expected_word (codes "p") rules.Header) (behind_first name) x r o.place m.place n.place t u v i j))
+    → PartRead (expected_word (codes "p") rules.Header) o m (Ok x) → BodyRead (behind_first name x) m n r → BodyRead (header_line name) o n r
+behind name short x r o m n h k = in_line_then _ _ (ReadsBody (header_line name) r) _ _ r o m n (λ e. e) h k (λ t u v i j.
+    as_header name short r o.place n.place t v (body_then (expected_word (codes "p") rules.Header) (behind_first name) x r o.place m.place n.place t u v i j))
 
 pub header_ended : (name : List ℕ) → length name ≤ 32 → (x y : Unit {0}) (r : Result (Unit {0}) LineFault) (o p q n : Reader)
-    → PartRead (expected_word (codes "p") rules.Header) o p (Ok x) → PartRead (expected_word name rules.Header) p q (Ok y) → RestRead (expected_end rules.Header) q n r → RestRead (header_line name) o n r
-header_ended name short x y r o p q n h k l = behind name short x r o p n h (in_line_then _ _ (ReadsRest (behind_first name x) r) _ _ r p q n (λ e. e) k l (λ t u v i j.
-    rest_then (expected_word name rules.Header) (λ w. expected_end rules.Header) y r p.place q.place n.place t u v i j))
+    → PartRead (expected_word (codes "p") rules.Header) o p (Ok x) → PartRead (expected_word name rules.Header) p q (Ok y) → BodyRead (expected_end rules.Header) q n r → BodyRead (header_line name) o n r
+header_ended name short x y r o p q n h k l = behind name short x r o p n h (in_line_then _ _ (ReadsBody (behind_first name x) r) _ _ r p q n (λ e. e) k l (λ t u v i j.
+    body_then (expected_word name rules.Header) (λ w. expected_end rules.Header) y r p.place q.place n.place t u v i j))
 
 pub header_unnamed : (name : List ℕ) → length name ≤ 32 → (x : Unit {0}) (e : LineFault) (o m n : Reader)
-    → PartRead (expected_word (codes "p") rules.Header) o m (Ok x) → PartRead (expected_word name rules.Header) m n (Err e) → RestRead (header_line name) o n (Err e)
-header_unnamed name short x e o m n h k = behind name short x (Err e) o m n h (in_line_map _ (ReadsRest (behind_first name x) (Err e)) _ _ m n (λ f. f) k (λ t u i.
-    rest_fault (expected_word name rules.Header) (λ w. expected_end rules.Header) e m.place n.place t u i))
+    → PartRead (expected_word (codes "p") rules.Header) o m (Ok x) → PartRead (expected_word name rules.Header) m n (Err e) → BodyRead (header_line name) o n (Err e)
+header_unnamed name short x e o m n h k = behind name short x (Err e) o m n h (in_line_map _ (ReadsBody (behind_first name x) (Err e)) _ _ m n (λ f. f) k (λ t u i.
+    body_fault (expected_word name rules.Header) (λ w. expected_end rules.Header) e m.place n.place t u i))
 
-pub header_unbegun : (name : List ℕ) → length name ≤ 32 → (e : LineFault) (o n : Reader) → PartRead (expected_word (codes "p") rules.Header) o n (Err e) → RestRead (header_line name) o n (Err e)
-header_unbegun name short e o n h = in_line_map _ (ReadsRest (header_line name) (Err e)) _ _ o n (λ f. f) h (λ t u i.
-    as_header name short (Err e) o.place n.place t u (rest_fault (expected_word (codes "p") rules.Header) (behind_first name) e o.place n.place t u i))
+pub header_unbegun : (name : List ℕ) → length name ≤ 32 → (e : LineFault) (o n : Reader) → PartRead (expected_word (codes "p") rules.Header) o n (Err e) → BodyRead (header_line name) o n (Err e)
+header_unbegun name short e o n h = in_line_map _ (ReadsBody (header_line name) (Err e)) _ _ o n (λ f. f) h (λ t u i.
+    as_header name short (Err e) o.place n.place t u (body_fault (expected_word (codes "p") rules.Header) (behind_first name) e o.place n.place t u i))
 
 -- ---- The line that came next
 

@@ -17,14 +17,14 @@ use Rattle.session_rules.specs.declared.Rule.TheVariants as rules
 use Rattle.session_rules.specs.History.{event_literals, first_missing, broken_at, broken_unless}
 use Rattle.session_rules.specs.Pair.{pair_faults}
 use Rattle.session_rules.specs.Reading.{event_at, icnf_line}
-use Rattle.line_reading.specs.Readers.{Reader, RestRead, LetterRead, LineRead}
-use Rattle.line_reading.specs.Whole.{literals_rest, status_rest}
+use Rattle.line_reading.specs.Readers.{Reader, BodyRead, LetterRead, LineRead}
+use Rattle.line_reading.specs.Whole.{literals_body, status_body}
 use Rattle.line_reading.proofs.Joined.{told_map}
-use Rattle.line_reading.proofs.ByLetter.{literals_as, status_as, rest_as, line_read, line_broken, line_not_entered}
+use Rattle.line_reading.proofs.ByLetter.{literals_as, status_as, body_as, line_read, line_broken, line_not_entered}
 use Rattle.icnf_lines.specs.declared.meeting.Met.{Met}
 use Rattle.icnf_lines.specs.declared.matching.Match.TheVariants.{Agrees, Differs}
 use Rattle.icnf_lines.specs.Matching.{Matches, LineMatched}
-use Rattle.icnf_lines.specs.Partners.{LiteralsMet, assumed_in, content_rule, rule_of, HasLiterals, RestMeets, RestAnswers, match_fault, answer_of}
+use Rattle.icnf_lines.specs.Partners.{LiteralsMet, assumed_in, content_rule, rule_of, HasLiterals, BodyMeets, BodyAnswers, match_fault, answer_of}
 use Rattle.icnf_lines.proofs.EventLines.{literals_fault, icnf_line_is}
 
 -- a list is a part where nothing of it is missing
@@ -96,11 +96,11 @@ module _ (qs ls : List ℕ) (m : Met) where
   broken_first letters.Restoring e has s u k = absurd has
   broken_first letters.NoLetter e has s u k = absurd has
 
-made_read : (letter : Letter) (ls : List ℕ) (o n : Reader) → HasLiterals letter → RestRead literals_rest o n (Ok ls) → RestRead (event_at letter) o n (Ok (made letter ls))
-made_read letters.Input ls o n has h = rest_as literals_rest (event_at letters.Input) events.Input (λ ws. literals_as events.Input ws) ls o n h
-made_read letters.Query ls o n has h = rest_as literals_rest (event_at letters.Query) events.Query (λ ws. literals_as events.Query ws) ls o n h
-made_read letters.Model ls o n has h = rest_as literals_rest (event_at letters.Model) events.Model (λ ws. literals_as events.Model ws) ls o n h
-made_read letters.Core ls o n has h = rest_as literals_rest (event_at letters.Core) events.Core (λ ws. literals_as events.Core ws) ls o n h
+made_read : (letter : Letter) (ls : List ℕ) (o n : Reader) → HasLiterals letter → BodyRead literals_body o n (Ok ls) → BodyRead (event_at letter) o n (Ok (made letter ls))
+made_read letters.Input ls o n has h = body_as literals_body (event_at letters.Input) events.Input (λ ws. literals_as events.Input ws) ls o n h
+made_read letters.Query ls o n has h = body_as literals_body (event_at letters.Query) events.Query (λ ws. literals_as events.Query ws) ls o n h
+made_read letters.Model ls o n has h = body_as literals_body (event_at letters.Model) events.Model (λ ws. literals_as events.Model ws) ls o n h
+made_read letters.Core ls o n has h = body_as literals_body (event_at letters.Core) events.Core (λ ws. literals_as events.Core ws) ls o n h
 made_read letters.Status ls o n has h = absurd has
 made_read letters.Lemma ls o n has h = absurd has
 made_read letters.Deletion ls o n has h = absurd has
@@ -108,7 +108,7 @@ made_read letters.Weakening ls o n has h = absurd has
 made_read letters.Restoring ls o n has h = absurd has
 made_read letters.NoLetter ls o n has h = absurd has
 
-pub literals_meet : (letter : Letter) (e : Event) (qs : List ℕ) (m : Met) (o n : Reader) → HasLiterals letter → LiteralsMet (event_literals e) (assumed_in letter qs) m o n → RestMeets letter e qs (rule_of letter e m) o n
+pub literals_meet : (letter : Letter) (e : Event) (qs : List ℕ) (m : Met) (o n : Reader) → HasLiterals letter → LiteralsMet (event_literals e) (assumed_in letter qs) m o n → BodyMeets letter e qs (rule_of letter e m) o n
 literals_meet letter e qs m o n has h = record {
   partner = made letter h.literals;
   rule = broken_first qs h.literals m letter e has h.stranger h.unmet h.claim;
@@ -116,7 +116,7 @@ literals_meet letter e qs m o n has h = record {
 }
 
 -- a fault behind such a letter
-pub literals_broken : (letter : Letter) (fault : LineFault) (o n : Reader) → HasLiterals letter → RestRead literals_rest o n (Err fault) → RestRead (event_at letter) o n (Err fault)
+pub literals_broken : (letter : Letter) (fault : LineFault) (o n : Reader) → HasLiterals letter → BodyRead literals_body o n (Err fault) → BodyRead (event_at letter) o n (Err fault)
 literals_broken letters.Input fault o n has h = literals_fault letters.Input events.Input (λ ws. refl) fault o n h
 literals_broken letters.Query fault o n has h = literals_fault letters.Query events.Query (λ ws. refl) fault o n h
 literals_broken letters.Model fault o n has h = literals_fault letters.Model events.Model (λ ws. refl) fault o n h
@@ -129,11 +129,11 @@ literals_broken letters.Restoring fault o n has h = absurd has
 literals_broken letters.NoLetter fault o n has h = absurd has
 
 pub status_meets : (e : Event) (qs : List ℕ) (answer : Option Rule) (status : StatusWord) (o n : Reader) → slice_get (pair_faults qs e (events.Status status)) 0 ≡ answer
-    → RestRead status_rest o n (Ok status) → RestMeets letters.Status e qs answer o n
+    → BodyRead status_body o n (Ok status) → BodyMeets letters.Status e qs answer o n
 status_meets e qs answer status o n rule h = record {
   partner = events.Status status;
   rule = rule;
-  read = rest_as status_rest (event_at letters.Status) events.Status (λ ws. status_as events.Status ws) status o n h;
+  read = body_as status_body (event_at letters.Status) events.Status (λ ws. status_as events.Status ws) status o n h;
 }
 
 -- ---- The whole line
@@ -161,7 +161,7 @@ module _ (e : Event) (qs : List ℕ) where
   line_at_fault faults.Read o n none h = record { moves = h.moves; told = h.told; count = h.count; read = λ f. h.read refl }
   line_at_fault faults.Memory o n none h = absurd (none refl)
 
-  pub matches : (letter : Letter) (r : Result (Option Rule) LineFault) (o m n : Reader) → (r ≡ Err faults.Memory → ⊥) → LetterRead o m (Ok (Some letter)) → RestAnswers letter e qs m n r
+  pub matches : (letter : Letter) (r : Result (Option Rule) LineFault) (o m n : Reader) → (r ≡ Err faults.Memory → ⊥) → LetterRead o m (Ok (Some letter)) → BodyAnswers letter e qs m n r
       → LineMatched e qs o n (answer_of r)
   matches letter (Ok None) o m n none entered h = line_agrees h.partner o n h.rule (line_read event_at (λ ws. refl) icnf_line icnf_line_is letter h.partner o m n entered h.read)
   matches letter (Ok (Some rule)) o m n none entered h = line_differs h.partner rule o n h.rule (line_read event_at (λ ws. refl) icnf_line icnf_line_is letter h.partner o m n entered h.read)

@@ -1,4 +1,4 @@
--- What the rest of a line of the interaction answers, held against the proof's event.
+-- What the body of a line of the interaction answers, held against the proof's event.
 use Rattle.std.specs.Prelude.{◌≡◌, ℕ, not, List, [], Option, Some, None, Ok, Err, option_map, find, slice_get}
 use Rattle.std.specs.Option.{option_or}
 use Rattle.std.specs.declared.result.Result.{Result}
@@ -13,8 +13,8 @@ use Rattle.session_rules.specs.declared.LineFault.TheVariants as faults
 use Rattle.session_rules.specs.History.{first_missing}
 use Rattle.session_rules.specs.Pair.{pair_faults}
 use Rattle.session_rules.specs.Reading.{event_at}
-use Rattle.line_reading.specs.Readers.{Reader, RestRead}
-use Rattle.line_reading.specs.Whole.{literals_rest}
+use Rattle.line_reading.specs.Readers.{Reader, BodyRead}
+use Rattle.line_reading.specs.Whole.{literals_body}
 use Rattle.icnf_lines.specs.declared.marks.Mark.{Mark}
 use Rattle.icnf_lines.specs.declared.meeting.Found.{Found}
 use Rattle.icnf_lines.specs.declared.meeting.Met.{Met}
@@ -36,11 +36,11 @@ pub record LiteralsFound (start now : List Mark) (found : Found) (old new : Read
   pub marks : Changes also_met start now literals
   pub stranger : found.stranger ≡ find (λ l. not (mark_at start l).held) literals
   pub claim : found.claim ≡ find (λ l. not (mark_at start l).assumed) literals
-  pub read : RestRead literals_rest old new (Ok literals)
+  pub read : BodyRead literals_body old new (Ok literals)
 
 abbrev pub FindsLiterals : List Mark → List Mark → Reader → Reader → Result Found LineFault → Type 0
 FindsLiterals start now old new (Ok found) = LiteralsFound start now found old new
-FindsLiterals start now old new (Err fault) = RestRead literals_rest old new (Err fault)
+FindsLiterals start now old new (Err fault) = BodyRead literals_body old new (Err fault)
 
 -- ---- Literals against literals
 
@@ -51,11 +51,11 @@ pub record LiteralsMet (held assumed : List ℕ) (met : Met) (old new : Reader) 
   pub stranger : met.stranger ≡ first_missing literals held
   pub unmet : met.unmet ≡ first_missing held literals
   pub claim : met.claim ≡ first_missing literals assumed
-  pub read : RestRead literals_rest old new (Ok literals)
+  pub read : BodyRead literals_body old new (Ok literals)
 
 abbrev pub MeetsLiterals : List ℕ → List ℕ → Reader → Reader → Result Met LineFault → Type 0
 MeetsLiterals held assumed old new (Ok met) = LiteralsMet held assumed met old new
-MeetsLiterals held assumed old new (Err fault) = RestRead literals_rest old new (Err fault)
+MeetsLiterals held assumed old new (Err fault) = BodyRead literals_body old new (Err fault)
 
 -- ---- The rule that is broken
 
@@ -88,14 +88,14 @@ HasLiterals _ = ⊥
 -- ---- What stands behind a letter
 
 -- behind the letter stands what makes it an event that breaks this rule first
-pub record RestMeets (letter : Letter) (event : Event) (assumed : List ℕ) (answer : Option Rule) (old new : Reader) : Type 0 where
+pub record BodyMeets (letter : Letter) (event : Event) (assumed : List ℕ) (answer : Option Rule) (old new : Reader) : Type 0 where
   pub partner : Event
   pub rule : slice_get (pair_faults assumed event partner) 0 ≡ answer
-  pub read : RestRead (event_at letter) old new (Ok partner)
+  pub read : BodyRead (event_at letter) old new (Ok partner)
 
-abbrev pub RestAnswers : Letter → Event → List ℕ → Reader → Reader → Result (Option Rule) LineFault → Type 0
-RestAnswers letter event assumed old new (Ok answer) = RestMeets letter event assumed answer old new
-RestAnswers letter event assumed old new (Err fault) = RestRead (event_at letter) old new (Err fault)
+abbrev pub BodyAnswers : Letter → Event → List ℕ → Reader → Reader → Result (Option Rule) LineFault → Type 0
+BodyAnswers letter event assumed old new (Ok answer) = BodyMeets letter event assumed answer old new
+BodyAnswers letter event assumed old new (Err fault) = BodyRead (event_at letter) old new (Err fault)
 
 -- a fault of a line, which isn't want of memory
 abbrev pub match_fault : LineFault → MatchFault

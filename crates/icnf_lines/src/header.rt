@@ -2,7 +2,7 @@
 ghost use Rattle.std.specs.Prelude.{◌≡◌, ◌≤◌, IsErrOf, length};
 ghost use Rattle.session_rules.specs.Reading.{header_line};
 ghost use Rattle.session_rules.specs.declared.LineFault.{LineFault};
-ghost use Rattle.line_reading.specs.Readers.{reader, RestRead};
+ghost use Rattle.line_reading.specs.Readers.{reader, BodyRead};
 ghost use Rattle.icnf_lines.specs.declared.header.HeaderFault.{HeaderFault};
 ghost use Rattle.icnf_lines.specs.Headers.{HeaderRead, SameFault, stream_fault_of};
 
@@ -26,9 +26,9 @@ pub enum HeaderFault {
 // The words of the header of this name, to the line's end.
 fn header_words<S: Source>(window: &mut Window, src: &mut S, name: &[u8]) -> Result<(), LineFault>
     requires short { length name.now ≤ 32 }
-    ensures rest {
+    ensures body {
         let at = reader S.left S.faults in
-        RestRead (header_line name.now) (at window.old src.old) (at window.new src.new) result }
+        BodyRead (header_line name.now) (at window.old src.old) (at window.new src.new) result }
     ensures memory { IsErrOf result LineFault.Memory → ⊥ }
 {
     match expect_word(window, src, b"p", Rule::Header) {

@@ -18,7 +18,7 @@ mod tests;
 
 use crate::marks::{Mark, Marks};
 use crate::meeting::{Met, meet};
-use line_reading::{enter_line, status_rest};
+use line_reading::{enter_line, status_body};
 use lits::Lit;
 use outside::Source;
 use session_rules::{Event, Letter, LineFault, Rule, StatusWord};
@@ -115,7 +115,8 @@ fn partner_rule<S: Source>(
     requires blank { IsBlank table.old }
     ensures rule {
         let at = reader S.left S.faults in
-        partners.RestAnswers letter event.now assumed.now (at window.old src.old) (at window.new src.new) result }
+        partners.BodyAnswers letter event.now assumed.now
+            (at window.old src.old) (at window.new src.new) result }
     ensures blank { IsBlank table.new }
     ensures memory { IsErrOf result LineFault.Memory → ⊥ }
 {
@@ -123,7 +124,7 @@ fn partner_rule<S: Source>(
         Letter::Input | Letter::Query | Letter::Model | Letter::Core => literals_rule(
             window, src, letter, event, assumed, table,
         ),
-        Letter::Status => match status_rest(window, src) {
+        Letter::Status => match status_body(window, src) {
             Ok(status) => Ok(status_rule(event, status)),
             Err(fault) => Err(fault),
         },
@@ -140,7 +141,7 @@ fn status_rule(event: &Event, status: StatusWord) -> Option<Rule>
     ensures { (qs : List ℕ) → slice_get (pair_faults qs event.now (Event.Status status)) 0 ≡ result }
 {
     match event {
-        Event::Status(told) => if same_status(*told, status) {
+        Event::Status(expected) => if same_status(*expected, status) {
             None
         } else {
             Some(Rule::Status)
@@ -175,7 +176,8 @@ fn literals_rule<S: Source>(
     requires blank { IsBlank table.old }
     ensures rule {
         let at = reader S.left S.faults in
-        partners.RestAnswers letter event.now assumed.now (at window.old src.old) (at window.new src.new) result }
+        partners.BodyAnswers letter event.now assumed.now
+            (at window.old src.old) (at window.new src.new) result }
     ensures blank { IsBlank table.new }
     ensures memory { IsErrOf result LineFault.Memory → ⊥ }
 {

@@ -66,7 +66,7 @@ fn meet_same<S: Source>(window: &mut Window, src: &mut S, held: &[Lit]) -> Resul
     }
 }
 
-/// Holds the rest of a line, literals and a 0, against an event's literals and those that are assumed. The table has no mark
+/// Holds the body of a line, literals and a 0, against an event's literals and those that are assumed. The table has no mark
 /// then, also after an error. Where nothing is assumed a look tells whether the line has the same literals in the same order,
 /// as nearly every line has, and nothing is marked.
 pub(crate) fn meet<S: Source>(
@@ -81,7 +81,8 @@ pub(crate) fn meet<S: Source>(
     requires blank { IsBlank table.old }
     ensures met {
         let at = reader S.left S.faults in
-        partners.MeetsLiterals held.now assumed.now (at window.old src.old) (at window.new src.new) result }
+        partners.MeetsLiterals held.now assumed.now
+            (at window.old src.old) (at window.new src.new) result }
     ensures blank { IsBlank table.new }
     ensures memory { IsErrOf result LineFault.Memory → ⊥ }
 {
@@ -111,7 +112,7 @@ struct Found {
     claim: Option<Lit>,
 }
 
-/// Reads the rest of a line, literals and a 0, and marks the literals as met that are held.
+/// Reads the body of a line, literals and a 0, and marks the literals as met that are held.
 fn find_literals<S: Source>(
     window: &mut Window,
     src: &mut S,
@@ -119,7 +120,8 @@ fn find_literals<S: Source>(
 ) -> Result<Found, LineFault>
     ensures found {
         let at = reader S.left S.faults in
-        partners.FindsLiterals table.old table.new (at window.old src.old) (at window.new src.new) result }
+        partners.FindsLiterals table.old table.new
+            (at window.old src.old) (at window.new src.new) result }
     ensures kept { partners.KeepsBlank table.old table.new }
     ensures memory { IsErrOf result LineFault.Memory → ⊥ }
 {

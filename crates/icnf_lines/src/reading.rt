@@ -1,11 +1,11 @@
 // How the lines of an interaction, and those of a script, are read.
 ghost use Rattle.session_rules.specs.Reading.{icnf_line, event_at};
-ghost use Rattle.line_reading.specs.Readers.{reader, RestRead, LineRead};
+ghost use Rattle.line_reading.specs.Readers.{reader, BodyRead, LineRead};
 
 #[cfg(test)]
 mod tests;
 
-use line_reading::{Spare, enter_line, literals_rest, status_rest};
+use line_reading::{Spare, enter_line, literals_body, status_body};
 use outside::Source;
 use session_rules::{Event, Letter, LineFault, Rule};
 use slice_tokens::Window;
@@ -19,14 +19,14 @@ pub fn read_event<S: Source>(
 ) -> Result<Event, LineFault>
     ensures {
         let at = reader S.left S.faults in
-        RestRead (event_at letter) (at window.old src.old) (at window.new src.new) result }
+        BodyRead (event_at letter) (at window.old src.old) (at window.new src.new) result }
 {
     match letter {
-        Letter::Input => Ok(Event::Input(literals_rest(spare, window, src)?)),
-        Letter::Query => Ok(Event::Query(literals_rest(spare, window, src)?)),
-        Letter::Status => Ok(Event::Status(status_rest(window, src)?)),
-        Letter::Model => Ok(Event::Model(literals_rest(spare, window, src)?)),
-        Letter::Core => Ok(Event::Core(literals_rest(spare, window, src)?)),
+        Letter::Input => Ok(Event::Input(literals_body(spare, window, src)?)),
+        Letter::Query => Ok(Event::Query(literals_body(spare, window, src)?)),
+        Letter::Status => Ok(Event::Status(status_body(window, src)?)),
+        Letter::Model => Ok(Event::Model(literals_body(spare, window, src)?)),
+        Letter::Core => Ok(Event::Core(literals_body(spare, window, src)?)),
         _ => {
             window.recall_bounds();
             Err(LineFault::Syntax(Rule::Letter))

@@ -1,12 +1,12 @@
 // How the lines of a proof by literals are read.
 ghost use Rattle.session_rules.specs.Reading.{idrup_line, step_at};
-ghost use Rattle.line_reading.specs.Readers.{reader, RestRead, LineRead};
+ghost use Rattle.line_reading.specs.Readers.{reader, BodyRead, LineRead};
 
 #[cfg(test)]
 mod tests;
 
 use icnf_lines::read_event;
-use line_reading::{Spare, enter_line, literals_rest};
+use line_reading::{Spare, enter_line, literals_body};
 use outside::Source;
 use session_rules::{Letter, LineFault, Step};
 use slice_tokens::Window;
@@ -20,13 +20,13 @@ fn read_step<S: Source>(
 ) -> Result<Step, LineFault>
     ensures {
         let at = reader S.left S.faults in
-        RestRead (step_at letter) (at window.old src.old) (at window.new src.new) result }
+        BodyRead (step_at letter) (at window.old src.old) (at window.new src.new) result }
 {
     match letter {
-        Letter::Lemma => Ok(Step::Lemma(literals_rest(spare, window, src)?)),
-        Letter::Deletion => Ok(Step::Delete(literals_rest(spare, window, src)?)),
-        Letter::Weakening => Ok(Step::Weaken(literals_rest(spare, window, src)?)),
-        Letter::Restoring => Ok(Step::Restore(literals_rest(spare, window, src)?)),
+        Letter::Lemma => Ok(Step::Lemma(literals_body(spare, window, src)?)),
+        Letter::Deletion => Ok(Step::Delete(literals_body(spare, window, src)?)),
+        Letter::Weakening => Ok(Step::Weaken(literals_body(spare, window, src)?)),
+        Letter::Restoring => Ok(Step::Restore(literals_body(spare, window, src)?)),
         _ => Ok(Step::Event(read_event(spare, window, src, letter)?)),
     }
 }

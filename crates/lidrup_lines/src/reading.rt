@@ -1,13 +1,13 @@
 // How the lines of a proof with ids are read.
 ghost use Rattle.session_rules.specs.Reading.{lidrup_line, id_step_at};
-ghost use Rattle.line_reading.specs.Readers.{reader, RestRead, LineRead};
+ghost use Rattle.line_reading.specs.Readers.{reader, BodyRead, LineRead};
 
 #[cfg(test)]
 mod tests;
 
 use line_reading::{
-    Spare, enter_line, id_literals_ids_rest, id_literals_rest, ids_rest, literals_ids_rest,
-    literals_rest, status_rest,
+    Spare, enter_line, id_literals_ids_body, id_literals_body, ids_body, literals_ids_body,
+    literals_body, status_body,
 };
 use outside::Source;
 use session_rules::{LStep, Letter, LineFault, Rule};
@@ -22,27 +22,27 @@ fn read_step<S: Source>(
 ) -> Result<LStep, LineFault>
     ensures {
         let at = reader S.left S.faults in
-        RestRead (id_step_at letter) (at window.old src.old) (at window.new src.new) result }
+        BodyRead (id_step_at letter) (at window.old src.old) (at window.new src.new) result }
 {
     match letter {
         Letter::Input => {
-            let (id, lits) = id_literals_rest(spare, window, src)?;
+            let (id, lits) = id_literals_body(spare, window, src)?;
             Ok(LStep::Input { id, lits })
         }
         Letter::Lemma => {
-            let (id, lits, hints) = id_literals_ids_rest(spare, window, src)?;
+            let (id, lits, hints) = id_literals_ids_body(spare, window, src)?;
             Ok(LStep::Lemma { id, lits, hints })
         }
         Letter::Core => {
-            let (lits, hints) = literals_ids_rest(spare, window, src)?;
+            let (lits, hints) = literals_ids_body(spare, window, src)?;
             Ok(LStep::Core { lits, hints })
         }
-        Letter::Query => Ok(LStep::Query(literals_rest(spare, window, src)?)),
-        Letter::Status => Ok(LStep::Status(status_rest(window, src)?)),
-        Letter::Model => Ok(LStep::Model(literals_rest(spare, window, src)?)),
-        Letter::Deletion => Ok(LStep::Delete(ids_rest(spare, window, src)?)),
-        Letter::Weakening => Ok(LStep::Weaken(ids_rest(spare, window, src)?)),
-        Letter::Restoring => Ok(LStep::Restore(ids_rest(spare, window, src)?)),
+        Letter::Query => Ok(LStep::Query(literals_body(spare, window, src)?)),
+        Letter::Status => Ok(LStep::Status(status_body(window, src)?)),
+        Letter::Model => Ok(LStep::Model(literals_body(spare, window, src)?)),
+        Letter::Deletion => Ok(LStep::Delete(ids_body(spare, window, src)?)),
+        Letter::Weakening => Ok(LStep::Weaken(ids_body(spare, window, src)?)),
+        Letter::Restoring => Ok(LStep::Restore(ids_body(spare, window, src)?)),
         Letter::NoLetter => {
             window.recall_bounds();
             Err(LineFault::Syntax(Rule::Letter))

@@ -15,10 +15,10 @@ use Rattle.session_rules.specs.Reading.{Fault, wrong, ◌>>=◌, Part, letter_of
 use Rattle.slice_tokens.specs.Place.{Place, present, later}
 use Rattle.slice_tokens.specs.Due.{known_words}
 use Rattle.slice_tokens.specs.Calls.{SameLater}
-use Rattle.line_reading.specs.Whole.{of_line, Tells, ReadsRest, literals_rest, ids_rest, status_rest, Says, StandsInLine, LineAnswers, Entered, NoLetterIn, Enters}
-use Rattle.line_reading.specs.Readers.{Reader, RestRead, LetterRead, LineRead}
+use Rattle.line_reading.specs.Whole.{of_line, Tells, ReadsBody, literals_body, ids_body, status_body, Says, StandsInLine, LineAnswers, Entered, NoLetterIn, Enters}
+use Rattle.line_reading.specs.Readers.{Reader, BodyRead, LetterRead, LineRead}
 use Rattle.line_reading.proofs.Joined.{told_then, told_map, moves_trans, rose_later, same_fault, in_line_map}
-use Rattle.line_reading.proofs.Resting.{mapped, mapped_ok, mapped_err}
+use Rattle.line_reading.proofs.WholeBodies.{mapped, mapped_ok, mapped_err}
 
 -- ---- A letter's rest as a value
 
@@ -38,13 +38,13 @@ status_as_value f (Ok m) = whole_as m.0 m.1
     whole_as x (w ∷ ws) = refl
 status_as_value f (Err e) = refl
 
-pub literals_as : {B : Type 0} (f : List ℕ → B) (ws : List (List ℕ)) → of_literals f ws ≡ mapped f (literals_rest ws)
+pub literals_as : {B : Type 0} (f : List ℕ → B) (ws : List (List ℕ)) → of_literals f ws ≡ mapped f (literals_body ws)
 literals_as f ws = list_as f (literal_list ws)
 
-pub ids_as : {B : Type 0} (f : List ℕ → B) (ws : List (List ℕ)) → of_ids f ws ≡ mapped f (ids_rest ws)
+pub ids_as : {B : Type 0} (f : List ℕ → B) (ws : List (List ℕ)) → of_ids f ws ≡ mapped f (ids_body ws)
 ids_as f ws = list_as f (id_list ws)
 
-pub status_as : {B : Type 0} (f : StatusWord → B) (ws : List (List ℕ)) → of_status f ws ≡ mapped f (status_rest ws)
+pub status_as : {B : Type 0} (f : StatusWord → B) (ws : List (List ℕ)) → of_status f ws ≡ mapped f (status_body ws)
 status_as f ws = status_as_value f (status_word ws)
 
 -- ---- The line
@@ -63,7 +63,7 @@ module _ {A : Type 0} (at : Letter → List (List ℕ) → Result A Fault) (none
   said letter o p t u e = begun e.line e.word (known_words (present p u)) e.judged e.whole_words
       ∙ ap (λ l. of_line e.line.cut (at l (known_words (present p u)))) e.is_letter ∙ ap (λ c. of_line c (at letter (known_words (present p u)))) (sym e.same_cut)
 
-  pub line_says : (letter : Letter) (x : A) (o p q : Place) (t u v : List ℕ) → q.line ≡ p.line → Entered letter o t p u → ReadsRest (at letter) (Ok x) p u q v → Says (by_letter at) x o t q v
+  pub line_says : (letter : Letter) (x : A) (o p q : Place) (t u v : List ℕ) → q.line ≡ p.line → Entered letter o t p u → ReadsBody (at letter) (Ok x) p u q v → Says (by_letter at) x o t q v
   line_says letter x o p q t u v stays e k = record {
     line = e.line;
     lines = e.lines ∙ ap (λ ls. e.line ∷ ls) (sym k.behind.later);
@@ -83,7 +83,7 @@ module _ {A : Type 0} (at : Letter → List (List ℕ) → Result A Fault) (none
   breaks_by letter Read o p q t u v stays e b k = inl (stands_in letter o p q t u v stays e b)
   breaks_by letter Memory o p q t u v stays e b k = stands_in letter o p q t u v stays e b
 
-  pub line_fails : (letter : Letter) (fault : LineFault) (o p q : Place) (t u v : List ℕ) → q.line ≡ p.line → Entered letter o t p u → ReadsRest (at letter) (Err fault) p u q v
+  pub line_fails : (letter : Letter) (fault : LineFault) (o p q : Place) (t u v : List ℕ) → q.line ≡ p.line → Entered letter o t p u → ReadsBody (at letter) (Err fault) p u q v
       → LineAnswers (by_letter at) o t q v (Err fault)
   line_fails letter fault o p q t u v stays e k = breaks_by letter fault o p q t u v stays e k.behind k.answer
 
@@ -104,11 +104,11 @@ module _ {A : Type 0} (at : Letter → List (List ℕ) → Result A Fault) (none
 
 -- the rest of a line as another value of the same words
 module _ {A B : Type 0} (says : List (List ℕ) → Result A Fault) (other : List (List ℕ) → Result B Fault) (f : A → B) (same : (ws : List (List ℕ)) → other ws ≡ mapped f (says ws)) where
-  pub rest_as : (x : A) (o n : Reader) → RestRead says o n (Ok x) → RestRead other o n (Ok (f x))
-  rest_as x o n h = in_line_map (ReadsRest says (Ok x)) (ReadsRest other (Ok (f x))) _ _ o n (λ e. cc e) h (λ t u k. mapped_ok f says other same x o.place n.place t u k)
+  pub body_as : (x : A) (o n : Reader) → BodyRead says o n (Ok x) → BodyRead other o n (Ok (f x))
+  body_as x o n h = in_line_map (ReadsBody says (Ok x)) (ReadsBody other (Ok (f x))) _ _ o n (λ e. cc e) h (λ t u k. mapped_ok f says other same x o.place n.place t u k)
 
-  pub rest_fails : (e : LineFault) (o n : Reader) → RestRead says o n (Err e) → RestRead other o n (Err e)
-  rest_fails e o n h = in_line_map (ReadsRest says (Err e)) (ReadsRest other (Err e)) _ _ o n (same_fault e Read) h (λ t u k. mapped_err f says other same e o.place n.place t u k)
+  pub body_fails : (e : LineFault) (o n : Reader) → BodyRead says o n (Err e) → BodyRead other o n (Err e)
+  body_fails e o n h = in_line_map (ReadsBody says (Err e)) (ReadsBody other (Err e)) _ _ o n (same_fault e Read) h (λ t u k. mapped_err f says other same e o.place n.place t u k)
 
 -- a line that is read by its letter
 module _ {A : Type 0} (at : Letter → List (List ℕ) → Result A Fault) (none : (ws : List (List ℕ)) → at letters.NoLetter ws ≡ Err (wrong rules.Letter))
@@ -116,7 +116,7 @@ module _ {A : Type 0} (at : Letter → List (List ℕ) → Result A Fault) (none
   as_read : (r : Result (Option A) LineFault) (o q : Place) (t v : List ℕ) → LineAnswers (by_letter at) o t q v r → LineAnswers read o t q v r
   as_read r o q t v h = subst (λ f. LineAnswers f o t q v r) (fun_ext same) h
 
-  pub line_read : (letter : Letter) (x : A) (o m n : Reader) → LetterRead o m (Ok (Some letter)) → RestRead (at letter) m n (Ok x) → LineRead read o n (Ok (Some x))
+  pub line_read : (letter : Letter) (x : A) (o m n : Reader) → LetterRead o m (Ok (Some letter)) → BodyRead (at letter) m n (Ok x) → LineRead read o n (Ok (Some x))
   line_read letter x o m n h k = record {
     moves = moves_trans _ _ _ h.moves k.stays.moves;
     progress = λ _. omega (arith, h.progress refl, k.stays.moves.passed);
@@ -125,7 +125,7 @@ module _ {A : Type 0} (at : Letter → List (List ℕ) → Result A Fault) (none
     read = λ e. cc e;
   }
 
-  pub line_broken : (letter : Letter) (fault : LineFault) (o m n : Reader) → LetterRead o m (Ok (Some letter)) → RestRead (at letter) m n (Err fault) → LineRead read o n (Err fault)
+  pub line_broken : (letter : Letter) (fault : LineFault) (o m n : Reader) → LetterRead o m (Ok (Some letter)) → BodyRead (at letter) m n (Err fault) → LineRead read o n (Err fault)
   line_broken letter fault o m n h k = record {
     moves = moves_trans _ _ _ h.moves k.stays.moves;
     progress = tt;

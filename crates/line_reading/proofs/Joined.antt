@@ -15,8 +15,8 @@ use Rattle.slice_tokens.specs.Place.{Place, WhereTold, present}
 use Rattle.slice_tokens.specs.Due.{due}
 use Rattle.slice_tokens.specs.Calls.{Moves, Answers, Leaves, LeavesLines}
 use Rattle.line_reading.specs.Parts.{Stays, ReadsPart, line_fault_of}
-use Rattle.line_reading.specs.Whole.{ReadsRest}
-use Rattle.line_reading.specs.Readers.{Reader, to_come, ReadsInLine, PartRead, RestRead}
+use Rattle.line_reading.specs.Whole.{ReadsBody}
+use Rattle.line_reading.specs.Readers.{Reader, to_come, ReadsInLine, PartRead, BodyRead}
 
 -- ---- Where the bytes may be told
 

@@ -11,7 +11,7 @@ use Rattle.session_rules.specs.Reading.{Fault, Part}
 use Rattle.slice_tokens.specs.Place.{Place, ahead, WhereTold}
 use Rattle.slice_tokens.specs.Calls.{Moves}
 use Rattle.line_reading.specs.Parts.{ReadsPart, EndsLine, Stays}
-use Rattle.line_reading.specs.Whole.{ReadsRest, Enters, LineAnswers}
+use Rattle.line_reading.specs.Whole.{ReadsBody, Enters, LineAnswers}
 
 -- what contracts see of a window over a source: where the window stands, what the source has left, where it tells that,
 -- and how often the source has failed
@@ -32,7 +32,8 @@ to_come r = ahead r.place r.left
 
 -- A part of the present line was read. Over every source the window stays in its line, and a failed read has its cause in the
 -- source; where the source tells its bytes, this is what was read of them.
-pub record ReadsInLine {A : Type 0} (Tells : Place → List ℕ → Place → List ℕ → Type 0) (old new : Reader) (result : Result A LineFault) : Type 0 where
+pub record ReadsInLine {A : Type 0} (Tells : Place → List ℕ → Place → List ℕ → Type 0)
+    (old new : Reader) (result : Result A LineFault) : Type 0 where
   pub stays : Stays old.place new.place
   pub told : WhereTold (to_come old) (to_come new) (λ bytes rest. Tells old.place bytes new.place rest)
   pub count : old.faults ≤ new.faults
@@ -42,9 +43,10 @@ pub record ReadsInLine {A : Type 0} (Tells : Place → List ℕ → Place → Li
 abbrev pub PartRead : {A : Type 0} → (List (List ℕ) → Part A) → Reader → Reader → Result A LineFault → Type 0
 PartRead part old new result = ReadsInLine (ReadsPart part result) old new result
 
--- all the words up to the line's end say this value, or break the rule
-abbrev pub RestRead : {A : Type 0} → (List (List ℕ) → Result A Fault) → Reader → Reader → Result A LineFault → Type 0
-RestRead says old new result = ReadsInLine (ReadsRest says result) old new result
+-- the body of the line, all its words from here to the line's end, says this value, or breaks the rule
+abbrev pub BodyRead : {A : Type 0} → (List (List ℕ) → Result A Fault) → Reader → Reader
+    → Result A LineFault → Type 0
+BodyRead says old new result = ReadsInLine (ReadsBody says result) old new result
 
 -- no word was left in the line, or the answer is a fault
 abbrev pub EndRead : Reader → Reader → Result Unit LineFault → Type 0
@@ -54,7 +56,8 @@ EndRead old new result = ReadsInLine (EndsLine result) old new result
 
 -- The next content line was sought, and read as far as the answer tells. Over every source the window doesn't go back, and a
 -- failed read has its cause in the source; where the source tells its bytes, this is what was read of them.
-pub record ReadsNextLine {A : Type 0} (Tells : Place → List ℕ → Place → List ℕ → Type 0) (old new : Reader) (result : Result (Option A) LineFault) : Type 0 where
+pub record ReadsNextLine {A : Type 0} (Tells : Place → List ℕ → Place → List ℕ → Type 0)
+    (old new : Reader) (result : Result (Option A) LineFault) : Type 0 where
   pub moves : Moves old.place new.place
   pub progress : IfOk result (λ line. IsTrue (is_some line) → old.place.passed < new.place.passed)
   pub told : WhereTold (to_come old) (to_come new) (λ bytes rest. Tells old.place bytes new.place rest)
@@ -63,8 +66,11 @@ pub record ReadsNextLine {A : Type 0} (Tells : Place → List ℕ → Place → 
 
 -- the letter of the next content line was read, or no line is left
 abbrev pub LetterRead : Reader → Reader → Result (Option Letter) LineFault → Type 0
-LetterRead old new result = ReadsNextLine (λ place bytes after rest. Enters place bytes after rest result) old new result
+LetterRead old new result =
+    ReadsNextLine (λ place bytes after rest. Enters place bytes after rest result) old new result
 
 -- the next content line was read, or no line is left
-abbrev pub LineRead : {A : Type 0} → (List (List ℕ) → Result A Fault) → Reader → Reader → Result (Option A) LineFault → Type 0
-LineRead read old new result = ReadsNextLine (λ place bytes after rest. LineAnswers read place bytes after rest result) old new result
+abbrev pub LineRead : {A : Type 0} → (List (List ℕ) → Result A Fault) → Reader → Reader
+    → Result (Option A) LineFault → Type 0
+LineRead read old new result =
+    ReadsNextLine (λ place bytes after rest. LineAnswers read place bytes after rest result) old new result

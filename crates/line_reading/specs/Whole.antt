@@ -1,4 +1,4 @@
--- What the readers of whole lines answer, and of what stands in a line behind its letter.
+-- What the readers of whole lines answer, and those of a line's body, which is what stands in it behind its letter.
 use Rattle.std.specs.Prelude.{◌≡◌, ℕ, ◌⊎◌, Bool, true, false, if◌then◌else◌, List, [], ◌∷◌, Some, None, Ok, Err, ⊤}
 use Rattle.std.specs.declared.option.Option.{Option}
 use Rattle.std.specs.declared.result.Result.{Result}
@@ -26,30 +26,30 @@ Tells said (Err (Syntax r)) = said ≡ Err r
 Tells said (Err Read) = ⊤
 Tells said (Err Memory) = ⊤
 
--- the rest of the present line was read to its end
-pub record ReadsRest {A : Type 0} (says : List (List ℕ) → Result A Fault) (result : Result A LineFault) (old : Place) (bytes : List ℕ) (new : Place) (rest : List ℕ) : Type 0 where
+-- the body of the present line was read: all its words from here to the line's end
+pub record ReadsBody {A : Type 0} (says : List (List ℕ) → Result A Fault) (result : Result A LineFault) (old : Place) (bytes : List ℕ) (new : Place) (rest : List ℕ) : Type 0 where
   pub answer : Tells (of_line (present old bytes).cut (says (known_words (present old bytes)))) result
   pub behind : SameLater old bytes new rest
 
 -- ---- What may stand behind a letter
 
-abbrev pub literals_rest : List (List ℕ) → Result (List ℕ) Fault
-literals_rest ws = of_literals (λ ls. ls) ws
+abbrev pub literals_body : List (List ℕ) → Result (List ℕ) Fault
+literals_body ws = of_literals (λ ls. ls) ws
 
-abbrev pub ids_rest : List (List ℕ) → Result (List ℕ) Fault
-ids_rest ws = of_ids (λ is. is) ws
+abbrev pub ids_body : List (List ℕ) → Result (List ℕ) Fault
+ids_body ws = of_ids (λ is. is) ws
 
-abbrev pub status_rest : List (List ℕ) → Result StatusWord Fault
-status_rest ws = of_status (λ s. s) ws
+abbrev pub status_body : List (List ℕ) → Result StatusWord Fault
+status_body ws = of_status (λ s. s) ws
 
-abbrev pub id_literals_rest : List (List ℕ) → Result (ℕ × List ℕ) Fault
-id_literals_rest ws = own_id ws >>= λ i. literal_list i.1 >>= λ ls. whole (i.0, ls.0) ls.1
+abbrev pub id_literals_body : List (List ℕ) → Result (ℕ × List ℕ) Fault
+id_literals_body ws = own_id ws >>= λ i. literal_list i.1 >>= λ ls. whole (i.0, ls.0) ls.1
 
-abbrev pub id_literals_ids_rest : List (List ℕ) → Result (ℕ × List ℕ × List ℕ) Fault
-id_literals_ids_rest ws = own_id ws >>= λ i. literal_list i.1 >>= λ ls. id_list ls.1 >>= λ hs. whole (i.0, ls.0, hs.0) hs.1
+abbrev pub id_literals_ids_body : List (List ℕ) → Result (ℕ × List ℕ × List ℕ) Fault
+id_literals_ids_body ws = own_id ws >>= λ i. literal_list i.1 >>= λ ls. id_list ls.1 >>= λ hs. whole (i.0, ls.0, hs.0) hs.1
 
-abbrev pub literals_ids_rest : List (List ℕ) → Result (List ℕ × List ℕ) Fault
-literals_ids_rest ws = literal_list ws >>= λ ls. id_list ls.1 >>= λ hs. whole (ls.0, hs.0) hs.1
+abbrev pub literals_ids_body : List (List ℕ) → Result (List ℕ × List ℕ) Fault
+literals_ids_body ws = literal_list ws >>= λ ls. id_list ls.1 >>= λ hs. whole (ls.0, hs.0) hs.1
 
 -- ---- Whole lines
 

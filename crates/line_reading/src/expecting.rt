@@ -1,7 +1,7 @@
 // Words that are given, and the line's end, each with the rule that anything else breaks.
 ghost use Rattle.std.specs.Prelude.{◌≡◌, IsErrOf};
 ghost use Rattle.session_rules.specs.declared.LineFault.{LineFault};
-ghost use Rattle.line_reading.specs.Readers.{reader, PartRead, RestRead};
+ghost use Rattle.line_reading.specs.Readers.{reader, PartRead, BodyRead};
 ghost use Rattle.line_reading.specs.Expected.{expected_says, expected_word, expected_end};
 
 use crate::kinds::same_word;
@@ -31,7 +31,8 @@ pub fn expect_word<S: Source>(
 ) -> Result<(), LineFault>
     ensures part {
         let at = reader S.left S.faults in
-        PartRead (expected_word word.now rule) (at window.old src.old) (at window.new src.new) result }
+        PartRead (expected_word word.now rule)
+            (at window.old src.old) (at window.new src.new) result }
     ensures memory { IsErrOf result LineFault.Memory → ⊥ }
 {
     match window.next(src) {
@@ -46,9 +47,9 @@ pub fn expect_word<S: Source>(
 
 /// The line's end; any further word, however long, breaks the rule.
 pub fn expect_end<S: Source>(window: &mut Window, src: &mut S, rule: Rule) -> Result<(), LineFault>
-    ensures rest {
+    ensures body {
         let at = reader S.left S.faults in
-        RestRead (expected_end rule) (at window.old src.old) (at window.new src.new) result }
+        BodyRead (expected_end rule) (at window.old src.old) (at window.new src.new) result }
     ensures memory { IsErrOf result LineFault.Memory → ⊥ }
 {
     match window.next(src) {

@@ -57,7 +57,8 @@ pub fn next_word<S: Source, K: WordKind>(
 ) -> Result<K::Value, LineFault>
     ensures part {
         let at = reader S.left S.faults in
-        PartRead (word_part K.says K.missing K.long) (at window.old src.old) (at window.new src.new) result }
+        PartRead (word_part K.says K.missing K.long)
+            (at window.old src.old) (at window.new src.new) result }
     ensures progress { IfOk result (λ _. window.old.passed < window.new.passed) }
     ensures memory { IsErrOf result LineFault.Memory → ⊥ }
 {
@@ -78,7 +79,8 @@ pub(crate) fn first_word<S: Source, K: WordKind>(
 ) -> Result<K::Value, LineFault>
     ensures part {
         let at = reader S.left S.faults in
-        PartRead (word_part K.says K.missing K.long) (at window.old src.old) (at window.new src.new) result }
+        PartRead (word_part K.says K.missing K.long)
+            (at window.old src.old) (at window.new src.new) result }
     ensures progress { IfOk result (λ _. window.old.passed < window.new.passed) }
     ensures memory { IsErrOf result LineFault.Memory → ⊥ }
 {
@@ -99,7 +101,8 @@ fn whole_word<S: Source, K: WordKind>(
 ) -> Result<K::Value, LineFault>
     ensures part {
         let at = reader S.left S.faults in
-        PartRead (word_part K.says K.missing K.long) (at window.old src.old) (at window.new src.new) result }
+        PartRead (word_part K.says K.missing K.long)
+            (at window.old src.old) (at window.new src.new) result }
     ensures progress { IfOk result (λ _. window.old.passed < window.new.passed) }
     ensures memory { IsErrOf result LineFault.Memory → ⊥ }
 {

@@ -1,8 +1,0 @@
-use Rattle.std.proofs.lemmas.Result.{err_from_is_err_and}
-use Rattle.line_reading.proofs.Resting.{fault_behind_literals}
-use Rattle.line_reading.proofs.rests.literals_ids_rest.Goals as goal
-
-pub returns-in_err-ids : goal.returns-in_err-ids
-returns-in_err-ids g c =
-    let e = err_from_is_err_and c.from_residual-in_err-ids.result c.from_residual-in_err-ids.ensures.1 in
-    record { rest = rw (e.1, e.2) (fault_behind_literals c.in_ok-lits.lits c.in_err-ids.field-0.0 _ _ _ c.in_ok-lits.ensures.part c.in_err-ids.ensures.rest) }
