@@ -1,5 +1,5 @@
 -- The literals of a line, one after another, against the marks of a table.
-use Rattle.std.proofs.Common.{◌≡◌, ℕ, ◌≤◌, Bool, true, false, not, ◌&&◌, ◌||◌, cond, nat_eq, List, [], ◌∷◌, ◌++◌, find, Some, None, Ok, Err, refl, sym, ◌∙◌, ap, arith, eq-eqb}
+use Rattle.std.proofs.Common.{◌≡◌, ℕ, Bool, true, false, not, ◌&&◌, ◌||◌, cond, nat_eq, List, [], ◌∷◌, ◌++◌, find, Some, None, Ok, Err, refl, sym, ◌∙◌, ap, eq-eqb}
 use mathlib.Core.Path.{fun_ext}
 use Rattle.std.specs.declared.option.Option.{Option}
 use Rattle.std.specs.Option.{option_or}
@@ -8,77 +8,81 @@ use Rattle.lits.specs.Clause.{has}
 use Rattle.session_rules.specs.declared.LineFault.{LineFault}
 use Rattle.session_rules.specs.declared.Rule.TheVariants as rules
 use Rattle.session_rules.specs.History.{first_missing}
-use Rattle.session_rules.specs.Reading.{literal_list, whole}
-use Rattle.slice_tokens.specs.Place.{Place, WhereTold, ahead}
-use Rattle.line_reading.specs.Parts.{ReadsPart, EndsLine, Stays, word_part}
+use Rattle.session_rules.specs.declared.LineFault.TheVariants.{Read}
+use Rattle.session_rules.specs.Reading.{Part, literal_list, whole}
+use Rattle.line_reading.specs.Parts.{word_part}
+use Rattle.line_reading.specs.Readers.{Reader, PartRead, BodyRead, EndRead}
 use Rattle.line_reading.specs.Kinds.{literal_says}
-use Rattle.line_reading.specs.Whole.{ReadsRest, literals_rest}
-use Rattle.line_reading.proofs.Collecting.{literal_list_is, Collecting, collects_more, collects_last, collects_fault, told_then}
-use Rattle.line_reading.proofs.Resting.{rest_then, rest_fault, end_then, end_fails}
+use Rattle.line_reading.specs.Whole.{ReadsBody, literals_body}
+use Rattle.line_reading.proofs.Joined.{same_fault, in_line_map, in_line_then}
+use Rattle.line_reading.proofs.Collecting.{literal_list_is, Collecting, collecting_more, collecting_last, collecting_fault}
+use Rattle.line_reading.proofs.WholeBodies.{body_then, body_fault, end_then, end_fails}
 use Rattle.icnf_lines.specs.declared.marks.Mark.{Mark}
 use Rattle.icnf_lines.specs.declared.meeting.Found.{Found}
 use Rattle.icnf_lines.specs.Marks.{mark_at, IsBlank, also_held, also_assumed, also_met, Changes}
 use Rattle.icnf_lines.specs.Partners.{LiteralsFound, LiteralsMet}
 use Rattle.icnf_lines.proofs.Marking.{met_push}
 
+-- ---- A list, and the line's end
+
+module _ (ls : List ℕ) (o q n : Reader) (read : PartRead literal_list o q (Ok ls)) where
+  list_ended : (y : Unit) → EndRead q n (Ok y) → BodyRead literals_body o n (Ok ls)
+  list_ended y end = in_line_then _ _ (ReadsBody literals_body (Ok ls)) _ _ _ o q n (λ e. cc e) read end
+      (λ t u v h w. body_then literal_list (λ ls ws. whole ls ws) ls (Ok ls) o.place q.place n.place t u v h (end_then ls y q.place n.place u v w))
+
+  list_not_ended : (fault : LineFault) → EndRead q n (Err fault) → BodyRead literals_body o n (Err fault)
+  list_not_ended fault end = in_line_then _ _ (ReadsBody literals_body (Err fault)) _ _ _ o q n (same_fault fault Read) read end
+      (λ t u v h w. body_then literal_list (λ ls ws. whole ls ws) ls (Err fault) o.place q.place n.place t u v h (end_fails ls fault q.place n.place u v w))
+
+list_broken : (o n : Reader) (fault : LineFault) → PartRead literal_list o n (Err fault) → BodyRead literals_body o n (Err fault)
+list_broken o n fault h = in_line_map _ (ReadsBody literals_body (Err fault)) _ _ o n (same_fault fault Read) h (λ t u k. body_fault literal_list (λ ls ws. whole ls ws) fault o.place n.place t u k)
+
 -- what the loop over a line's literals keeps, with those so far
-pub record Finding (start now : List Mark) (first second : Option ℕ) (old new : Place) (before after : Option (List ℕ)) (m n : ℕ) : Type 0 where
+pub record Finding (start now : List Mark) (stranger claim : Option ℕ) (old new : Reader) : Type 0 where
   pub literals : List ℕ
   pub marks : Changes also_met start now literals
-  pub stranger : first ≡ find (λ l. not (mark_at start l).held) literals
-  pub claim : second ≡ find (λ l. not (mark_at start l).assumed) literals
-  pub read : Collecting literal_list literals old new before after m n
+  pub first_stranger : stranger ≡ find (λ l. not (mark_at start l).held) literals
+  pub first_claim : claim ≡ find (λ l. not (mark_at start l).assumed) literals
+  pub read : Collecting literal_list literals old new
 
 -- the first that passes a test, with one more behind
 find_more : (test : ℕ → Bool) (ls : List ℕ) (l : ℕ) (o p : Option ℕ) (b : Bool) → o ≡ find test ls → b ≡ test l → p ≡ option_or o (cond b (Some l) None) → p ≡ find test (ls ++ l ∷ [])
 find_more test ls l o p b so is e = e ∙ ap (λ z. option_or z (cond b (Some l) None)) so ∙ ap (λ z. option_or (find test ls) (cond z (Some l) None)) is ∙ sym (find-append test ls (l ∷ []))
 
--- a literal more, which has this mark
-pub finding_more : (start now next : List Mark) (first second first2 second2 : Option ℕ) (o p q : Place) (a b d : Option (List ℕ)) (m n k l : ℕ) (mark : Mark)
-    → Finding start now first second o p a b m n
-    → Stays p q → n ≤ k → WhereTold (ahead p b) (ahead q d) (λ u v. ReadsPart (word_part literal_says rules.Unclosed rules.Number) (Ok (Some l)) p u q v)
-    → mark ≡ mark_at now l → first2 ≡ option_or first (cond (not mark.held) (Some l) None) → second2 ≡ option_or second (cond (not mark.assumed) (Some l) None)
-    → Changes also_met now next (l ∷ []) → Finding start next first2 second2 o q a d m k
-finding_more start now next first second first2 second2 o p q a b d m n k l mark f stays le word is s c change = record {
-  literals = f.literals ++ l ∷ [];
-  marks = met_push start now next f.literals l f.marks change;
-  stranger = find_more (λ l. not (mark_at start l).held) f.literals l first first2 (not mark.held) f.stranger (ap (λ z. not z.held) (is ∙ f.marks.each l)) s;
-  claim = find_more (λ l. not (mark_at start l).assumed) f.literals l second second2 (not mark.assumed) f.claim (ap (λ z. not z.assumed) (is ∙ f.marks.each l)) c;
-  read = record {
-    passed = omega (arith, f.read.passed, stays.moves.passed);
-    line = stays.line ∙ f.read.line;
-    standing = stays.standing ∙ f.read.standing;
-    ended = λ e. stays.moves.ended (f.read.ended e);
-    told = told_then _ _ _ _ _ _ f.read.told word (λ t u v h w. collects_more literal_list literal_says literal_list_is f.literals l o p q t u v h w);
-    count = omega (arith, f.read.count, le);
-  };
-}
+-- one word of a list of literals
+abbrev one_literal : List (List ℕ) → Part (Option ℕ)
+one_literal = word_part literal_says rules.Unclosed rules.Number
 
--- ---- The end of the list, and of the line
-
-module _ (start now : List Mark) (first second : Option ℕ) (o p q s : Place) (a b d e : Option (List ℕ)) (m n : ℕ) (f : Finding start now first second o p a b m n)
-    (word : WhereTold (ahead p b) (ahead q d) (λ u v. ReadsPart (word_part literal_says rules.Unclosed rules.Number) (Ok None) p u q v)) where
-  list_read : WhereTold (ahead o a) (ahead q d) (λ t v. ReadsPart literal_list (Ok f.literals) o t q v)
-  list_read = told_then _ _ _ _ _ _ f.read.told word (λ t u v h w. collects_last literal_list literal_says literal_list_is f.literals o p q t u v h w)
-
-  pub found_all : (y : Unit) → WhereTold (ahead q d) (ahead s e) (λ u v. EndsLine (Ok y) q u s v) → LiteralsFound start now (record { stranger = first; claim = second }) o a s e
-  found_all y end = record {
-    literals = f.literals;
-    marks = f.marks;
-    stranger = f.stranger;
-    claim = f.claim;
-    told = told_then _ _ _ _ _ _ list_read end (λ t u v h w. rest_then literal_list (λ ls ws. whole ls ws) f.literals (Ok f.literals) o q s t u v h (end_then f.literals y q s u v w));
+module _ (start now : List Mark) (stranger claim : Option ℕ) (o p : Reader) (f : Finding start now stranger claim o p) where
+  -- a literal more, which has this mark
+  pub finding_more : (next : List Mark) (stranger2 claim2 : Option ℕ) (q : Reader) (l : ℕ) (mark : Mark) → PartRead one_literal p q (Ok (Some l))
+      → mark ≡ mark_at now l → stranger2 ≡ option_or stranger (cond (not mark.held) (Some l) None) → claim2 ≡ option_or claim (cond (not mark.assumed) (Some l) None)
+      → Changes also_met now next (l ∷ []) → Finding start next stranger2 claim2 o q
+  finding_more next stranger2 claim2 q l mark word is s c change = record {
+    literals = f.literals ++ l ∷ [];
+    marks = met_push start now next f.literals l f.marks change;
+    first_stranger = find_more (λ l. not (mark_at start l).held) f.literals l stranger stranger2 (not mark.held) f.first_stranger (ap (λ z. not z.held) (is ∙ f.marks.each l)) s;
+    first_claim = find_more (λ l. not (mark_at start l).assumed) f.literals l claim claim2 (not mark.assumed) f.first_claim (ap (λ z. not z.assumed) (is ∙ f.marks.each l)) c;
+    read = collecting_more literal_list literal_says literal_list_is f.literals o p q f.read l word;
   }
 
-  pub not_ended : (fault : LineFault) → WhereTold (ahead q d) (ahead s e) (λ u v. EndsLine (Err fault) q u s v)
-      → WhereTold (ahead o a) (ahead s e) (λ t u. ReadsRest literals_rest (Err fault) o t s u)
-  not_ended fault end = told_then _ _ _ _ _ _ list_read end (λ t u v h w. rest_then literal_list (λ ls ws. whole ls ws) f.literals (Err fault) o q s t u v h (end_fails f.literals fault q s u v w))
+  -- ---- The end of the list, and of the line
 
-pub not_found : (start now : List Mark) (first second : Option ℕ) (o p q : Place) (a b d : Option (List ℕ)) (m n : ℕ) (fault : LineFault) → Finding start now first second o p a b m n
-    → WhereTold (ahead p b) (ahead q d) (λ u v. ReadsPart (word_part literal_says rules.Unclosed rules.Number) (Err fault) p u q v)
-    → WhereTold (ahead o a) (ahead q d) (λ t u. ReadsRest literals_rest (Err fault) o t q u)
-not_found start now first second o p q a b d m n fault f word =
-    told_then _ _ _ _ _ _ f.read.told word (λ t u v h w. rest_fault literal_list (λ ls ws. whole ls ws) fault o q t v (collects_fault literal_list literal_says literal_list_is f.literals fault o p q t u v h w))
+  module _ (q n : Reader) (word : PartRead one_literal p q (Ok None)) where
+    pub found_all : (y : Unit) → EndRead q n (Ok y) → LiteralsFound start now (record { stranger = stranger; claim = claim }) o n
+    found_all y end = record {
+      literals = f.literals;
+      marks = f.marks;
+      stranger = f.first_stranger;
+      claim = f.first_claim;
+      read = list_ended f.literals o q n (collecting_last literal_list literal_says literal_list_is f.literals o p q f.read word) y end;
+    }
+
+    pub not_ended : (fault : LineFault) → EndRead q n (Err fault) → BodyRead literals_body o n (Err fault)
+    not_ended fault end = list_not_ended f.literals o q n (collecting_last literal_list literal_says literal_list_is f.literals o p q f.read word) fault end
+
+  pub not_found : (q : Reader) (fault : LineFault) → PartRead one_literal p q (Err fault) → BodyRead literals_body o q (Err fault)
+  not_found q fault word = list_broken o q fault (collecting_fault literal_list literal_says literal_list_is f.literals o p q f.read fault word)
 
 -- ---- A line's literals against an event's and those that are assumed
 
@@ -98,15 +102,15 @@ module _ (c qs : List ℕ) (t0 t1 t2 : List Mark) (none : IsBlank t0) (held : Ch
   marked : (l : ℕ) → mark_at t2 l ≡ record { held = has c l; assumed = has qs l; met = false }
   marked l = assumed.each l ∙ ap (also_assumed (has qs l)) (held.each l ∙ ap (also_held (has c l)) (none.each l))
 
-  pub literals_met : (t3 : List Mark) (f : Found) (unmet : Option ℕ) (o n : Place) (a b : Option (List ℕ)) → LiteralsFound t2 t3 f o a n b → unmet ≡ find (λ l. not (mark_at t3 l).met) c
-      → LiteralsMet c qs (record { stranger = f.stranger; unmet = unmet; claim = f.claim }) o a n b
-  literals_met t3 f unmet o n a b h e = record {
+  pub literals_met : (t3 : List Mark) (f : Found) (unmet : Option ℕ) (o n : Reader) → LiteralsFound t2 t3 f o n → unmet ≡ find (λ l. not (mark_at t3 l).met) c
+      → LiteralsMet c qs (record { stranger = f.stranger; unmet = unmet; claim = f.claim }) o n
+  literals_met t3 f unmet o n h e = record {
     literals = h.literals;
     stranger = h.stranger ∙ ap (λ p. find p h.literals) (fun_ext (λ l. ap (λ m. not m.held) (marked l)));
     unmet = e ∙ find_members (λ l. not (mark_at t3 l).met) (λ l. not (has h.literals l)) c c
         (λ l is. ap (λ m. not m.met) (h.marks.each l ∙ ap (also_met (has h.literals l)) (marked l)) ∙ ap (λ b. not (b && has h.literals l)) is) (λ l is. is);
     claim = h.claim ∙ ap (λ p. find p h.literals) (fun_ext (λ l. ap (λ m. not m.assumed) (marked l)));
-    told = h.told;
+    read = h.read;
   }
 
 -- ---- The same literals
@@ -118,18 +122,16 @@ find_none (x ∷ xs) = find_none xs
 none_missing : (ls : List ℕ) → first_missing ls ls ≡ None
 none_missing ls = find_members (λ l. not (has ls l)) (λ l. false) ls ls (λ l is. ap not is) (λ l is. is) ∙ find_none ls
 
-module _ (held : List ℕ) (o q s : Place) (a d e : Option (List ℕ)) (read : WhereTold (ahead o a) (ahead q d) (λ t u. ReadsPart literal_list (Ok held) o t q u)) where
+module _ (held : List ℕ) (o q n : Reader) (read : PartRead literal_list o q (Ok held)) where
   -- the line has an event's literals in the same order
-  pub same_met : (y : Unit) (claim : Option ℕ) → claim ≡ first_missing held [] → WhereTold (ahead q d) (ahead s e) (λ u v. EndsLine (Ok y) q u s v)
-      → LiteralsMet held [] (record { stranger = None; unmet = None; claim = claim }) o a s e
+  pub same_met : (y : Unit) (claim : Option ℕ) → claim ≡ first_missing held [] → EndRead q n (Ok y) → LiteralsMet held [] (record { stranger = None; unmet = None; claim = claim }) o n
   same_met y claim is end = record {
     literals = held;
     stranger = sym (none_missing held);
     unmet = sym (none_missing held);
     claim = is;
-    told = told_then _ _ _ _ _ _ read end (λ t u v h w. rest_then literal_list (λ ls ws. whole ls ws) held (Ok held) o q s t u v h (end_then held y q s u v w));
+    read = list_ended held o q n read y end;
   }
 
-  pub same_fails : (fault : LineFault) → WhereTold (ahead q d) (ahead s e) (λ u v. EndsLine (Err fault) q u s v)
-      → WhereTold (ahead o a) (ahead s e) (λ t u. ReadsRest literals_rest (Err fault) o t s u)
-  same_fails fault end = told_then _ _ _ _ _ _ read end (λ t u v h w. rest_then literal_list (λ ls ws. whole ls ws) held (Err fault) o q s t u v h (end_fails held fault q s u v w))
+  pub same_fails : (fault : LineFault) → EndRead q n (Err fault) → BodyRead literals_body o n (Err fault)
+  same_fails fault end = list_not_ended held o q n read fault end

@@ -2,7 +2,8 @@
 use Rattle.std.proofs.Common.{◌≡◌, ℕ, ◌≤◌, Bool, true, false, ◌&&◌, nat_lt, if◌then◌else◌, List, [], ◌∷◌, length, Ok, Err, codes, refl, ap, ◌∙◌, subst, inl, inr, arith, ltb-true}
 use mathlib.Core.Path.{fun_ext}
 use Rattle.std.proofs.lemmas.Bool.{cases_Bool}
-use Rattle.std.specs.declared.option.Option.{Option}
+use Rattle.std.specs.Prelude.{IsErrOf}
+use Rattle.outside.specs.Faults.{Rose}
 use Rattle.std.specs.declared.result.Result.{Result}
 use Rattle.session_rules.specs.declared.Rule.{Rule}
 use Rattle.session_rules.specs.declared.Rule.TheVariants as rules
@@ -11,17 +12,18 @@ use Rattle.session_rules.specs.Reading.{Fault, wrong, missing, ◌>>=◌, Part, 
 use Rattle.slice_tokens.specs.Place.{Place, WhereTold}
 use Rattle.slice_tokens.specs.declared.token.TokenFault.{TokenFault}
 use Rattle.slice_tokens.specs.declared.token.TokenFault.TheVariants as tokens
-use Rattle.slice_tokens.specs.Calls.{AtBound, Reaches}
-use Rattle.line_reading.specs.Parts.{ReadsPart, word_or_fault}
-use Rattle.line_reading.specs.Whole.{ReadsRest}
+use Rattle.slice_tokens.specs.Calls.{Moves, AtBound, Reaches}
+use Rattle.line_reading.specs.Parts.{word_or_fault}
+use Rattle.line_reading.specs.Readers.{Reader, to_come, PartRead, BodyRead}
+use Rattle.line_reading.specs.Whole.{ReadsBody}
 use Rattle.line_reading.specs.Expected.{expected_word, expected_end}
 use Rattle.line_reading.proofs.LongWords.{other_length}
-use Rattle.line_reading.proofs.Collecting.{told_then}
-use Rattle.line_reading.proofs.ByLetter.{told_map}
-use Rattle.line_reading.proofs.Resting.{with_more, rest_then, rest_fault}
+use Rattle.line_reading.proofs.Joined.{told_map, in_line_map, in_line_then}
+use Rattle.line_reading.proofs.WholeBodies.{with_more, body_then, body_fault}
 use Rattle.line_reading.proofs.AtBounds.{next_cut}
+use Rattle.icnf_lines.specs.declared.header.HeaderFault.{HeaderFault}
 use Rattle.icnf_lines.specs.declared.header.HeaderFault.TheVariants as headers
-use Rattle.icnf_lines.specs.Headers.{HeaderAnswers, stream_fault_of}
+use Rattle.icnf_lines.specs.Headers.{HeaderAnswers, HeaderRead, stream_fault_of}
 
 -- a word that was held against the given one
 abbrev tested : Rule → Bool → List (List ℕ) → Part (Unit {0})
@@ -88,31 +90,28 @@ header_is name short (w ∷ x ∷ y ∷ ws) = begun name w (x ∷ y ∷ ws) ∙ 
 
 -- ---- The words to the line's end
 
-as_header : (name : List ℕ) → length name ≤ 32 → (r : Result (Unit {0}) LineFault) (p q : Place) (t u : List ℕ) → ReadsRest (by_words name) r p t q u → ReadsRest (header_line name) r p t q u
-as_header name short r p q t u h = subst (λ f. ReadsRest f r p t q u) (fun_ext (header_is name short)) h
+as_header : (name : List ℕ) → length name ≤ 32 → (r : Result (Unit {0}) LineFault) (p q : Place) (t u : List ℕ) → ReadsBody (by_words name) r p t q u → ReadsBody (header_line name) r p t q u
+as_header name short r p q t u h = subst (λ f. ReadsBody f r p t q u) (fun_ext (header_is name short)) h
 
 -- the rest behind the first word
-behind : (name : List ℕ) → length name ≤ 32 → (x : Unit {0}) (r : Result (Unit {0}) LineFault) (a b c : Option (List ℕ)) (p q s : Place)
-    → WhereTold a b (λ t u. ReadsPart (expected_word (codes "p") rules.Header) (Ok x) p t q u) → WhereTold b c (λ t u. ReadsRest (behind_first name x) r q t s u)
-    → WhereTold a c (λ t u. ReadsRest (header_line name) r p t s u)
-behind name short x r a b c p q s h k = told_then a b c _ _ _ h k (λ t u v i j.
-    as_header name short r p s t v (rest_then (expected_word (codes "p") rules.Header) (behind_first name) x r p q s t u v i j))
+behind : (name : List ℕ) → length name ≤ 32 → (x : Unit {0}) (r : Result (Unit {0}) LineFault) (o m n : Reader)
+    → PartRead (expected_word (codes "p") rules.Header) o m (Ok x) → BodyRead (behind_first name x) m n r → BodyRead (header_line name) o n r
+behind name short x r o m n h k = in_line_then _ _ (ReadsBody (header_line name) r) _ _ r o m n (λ e. e) h k (λ t u v i j.
+    as_header name short r o.place n.place t v (body_then (expected_word (codes "p") rules.Header) (behind_first name) x r o.place m.place n.place t u v i j))
 
-pub header_ended : (name : List ℕ) → length name ≤ 32 → (x y : Unit {0}) (r : Result (Unit {0}) LineFault) (a b c d : Option (List ℕ)) (p q s z : Place)
-    → WhereTold a b (λ t u. ReadsPart (expected_word (codes "p") rules.Header) (Ok x) p t q u) → WhereTold b c (λ t u. ReadsPart (expected_word name rules.Header) (Ok y) q t s u)
-    → WhereTold c d (λ t u. ReadsRest (expected_end rules.Header) r s t z u) → WhereTold a d (λ t u. ReadsRest (header_line name) r p t z u)
-header_ended name short x y r a b c d p q s z h k l = behind name short x r a b d p q z h (told_then b c d _ _ _ k l (λ t u v i j.
-    rest_then (expected_word name rules.Header) (λ w. expected_end rules.Header) y r q s z t u v i j))
+pub header_ended : (name : List ℕ) → length name ≤ 32 → (x y : Unit {0}) (r : Result (Unit {0}) LineFault) (o p q n : Reader)
+    → PartRead (expected_word (codes "p") rules.Header) o p (Ok x) → PartRead (expected_word name rules.Header) p q (Ok y) → BodyRead (expected_end rules.Header) q n r → BodyRead (header_line name) o n r
+header_ended name short x y r o p q n h k l = behind name short x r o p n h (in_line_then _ _ (ReadsBody (behind_first name x) r) _ _ r p q n (λ e. e) k l (λ t u v i j.
+    body_then (expected_word name rules.Header) (λ w. expected_end rules.Header) y r p.place q.place n.place t u v i j))
 
-pub header_unnamed : (name : List ℕ) → length name ≤ 32 → (x : Unit {0}) (e : LineFault) (a b c : Option (List ℕ)) (p q s : Place)
-    → WhereTold a b (λ t u. ReadsPart (expected_word (codes "p") rules.Header) (Ok x) p t q u) → WhereTold b c (λ t u. ReadsPart (expected_word name rules.Header) (Err e) q t s u)
-    → WhereTold a c (λ t u. ReadsRest (header_line name) (Err e) p t s u)
-header_unnamed name short x e a b c p q s h k = behind name short x (Err e) a b c p q s h (told_map b c _ _ k (λ t u i.
-    rest_fault (expected_word name rules.Header) (λ w. expected_end rules.Header) e q s t u i))
+pub header_unnamed : (name : List ℕ) → length name ≤ 32 → (x : Unit {0}) (e : LineFault) (o m n : Reader)
+    → PartRead (expected_word (codes "p") rules.Header) o m (Ok x) → PartRead (expected_word name rules.Header) m n (Err e) → BodyRead (header_line name) o n (Err e)
+header_unnamed name short x e o m n h k = behind name short x (Err e) o m n h (in_line_map _ (ReadsBody (behind_first name x) (Err e)) _ _ m n (λ f. f) k (λ t u i.
+    body_fault (expected_word name rules.Header) (λ w. expected_end rules.Header) e m.place n.place t u i))
 
-pub header_unbegun : (name : List ℕ) → length name ≤ 32 → (e : LineFault) (a b : Option (List ℕ)) (p q : Place)
-    → WhereTold a b (λ t u. ReadsPart (expected_word (codes "p") rules.Header) (Err e) p t q u) → WhereTold a b (λ t u. ReadsRest (header_line name) (Err e) p t q u)
-header_unbegun name short e a b p q h = told_map a b _ _ h (λ t u i. as_header name short (Err e) p q t u (rest_fault (expected_word (codes "p") rules.Header) (behind_first name) e p q t u i))
+pub header_unbegun : (name : List ℕ) → length name ≤ 32 → (e : LineFault) (o n : Reader) → PartRead (expected_word (codes "p") rules.Header) o n (Err e) → BodyRead (header_line name) o n (Err e)
+header_unbegun name short e o n h = in_line_map _ (ReadsBody (header_line name) (Err e)) _ _ o n (λ f. f) h (λ t u i.
+    as_header name short (Err e) o.place n.place t u (body_fault (expected_word (codes "p") rules.Header) (behind_first name) e o.place n.place t u i))
 
 -- ---- The line that came next
 
@@ -127,11 +126,23 @@ at_bound name o q t u h = elim (next_cut (header_line name) rules.Header (no_wor
 ]
 
 not_reached : (name : List ℕ) (e : TokenFault) (o q : Place) (t u : List ℕ) → Reaches o t q u (Err e) → HeaderAnswers name o t q u (Err (stream_fault_of e))
-not_reached name tokens.Read o q t u h = tt
+not_reached name tokens.Read o q t u h = inr h
 not_reached name tokens.LongWord o q t u h = absurd h
 not_reached name tokens.Length o q t u h = at_bound name o q t u h
 
+-- a fault of the window is a failed read only where a read failed
+failed_read : (e : TokenFault) → (let a : Result (Unit {0}) HeaderFault = Err (stream_fault_of e) in a) ≡ Err headers.Read → (let b : Result Bool TokenFault = Err e in b) ≡ Err tokens.Read
+failed_read tokens.Read h = refl
+failed_read tokens.LongWord h = cc h
+failed_read tokens.Length h = cc h
+
 -- the window answered a fault in place of the next line
-pub header_unreached : (name : List ℕ) (e : TokenFault) (a b : Option (List ℕ)) (o q : Place) → WhereTold a b (λ t u. Reaches o t q u (Err e))
-    → WhereTold a b (λ t u. HeaderAnswers name o t q u (Err (stream_fault_of e)))
-header_unreached name e a b o q h = told_map a b _ _ h (λ t u k. not_reached name e o q t u k)
+pub header_unreached : (name : List ℕ) (e : TokenFault) (o n : Reader) → Moves o.place n.place → o.faults ≤ n.faults
+    → (IsErrOf (let b : Result Bool TokenFault = Err e in b) tokens.Read → Rose o.faults n.faults)
+    → WhereTold (to_come o) (to_come n) (λ t u. Reaches o.place t n.place u (Err e)) → HeaderRead name o n (Err (stream_fault_of e))
+header_unreached name e o n moves count read h = record {
+  moves = moves;
+  told = told_map _ _ _ _ h (λ t u k. not_reached name e o.place n.place t u k);
+  count = count;
+  read = λ f. read (failed_read e f);
+}

@@ -17,12 +17,14 @@ use Rattle.session_rules.specs.declared.Rule.TheVariants as rules
 use Rattle.session_rules.specs.History.{event_literals, first_missing, broken_at, broken_unless}
 use Rattle.session_rules.specs.Pair.{pair_faults}
 use Rattle.session_rules.specs.Reading.{event_at, icnf_line}
-use Rattle.slice_tokens.specs.Place.{Place, WhereTold, ahead}
-use Rattle.line_reading.specs.Whole.{ReadsRest, literals_rest, status_rest, Entered, Enters, LineAnswers}
-use Rattle.line_reading.proofs.ByLetter.{literals_as, status_as, rest_as, told_map, line_read, line_broken, line_not_entered}
+use Rattle.line_reading.specs.Readers.{Reader, BodyRead, LetterRead, LineRead}
+use Rattle.line_reading.specs.Whole.{literals_body, status_body}
+use Rattle.line_reading.proofs.Joined.{told_map}
+use Rattle.line_reading.proofs.ByLetter.{literals_as, status_as, body_as, line_read, line_broken, line_not_entered}
 use Rattle.icnf_lines.specs.declared.meeting.Met.{Met}
-use Rattle.icnf_lines.specs.Matching.{Matches}
-use Rattle.icnf_lines.specs.Partners.{LiteralsMet, assumed_in, content_rule, rule_of, HasLiterals, RestMeets, RestAnswers, match_fault, answer_of}
+use Rattle.icnf_lines.specs.declared.matching.Match.TheVariants.{Agrees, Differs}
+use Rattle.icnf_lines.specs.Matching.{Matches, LineMatched}
+use Rattle.icnf_lines.specs.Partners.{LiteralsMet, assumed_in, content_rule, rule_of, HasLiterals, BodyMeets, BodyAnswers, match_fault, answer_of}
 use Rattle.icnf_lines.proofs.EventLines.{literals_fault, icnf_line_is}
 
 -- a list is a part where nothing of it is missing
@@ -94,67 +96,77 @@ module _ (qs ls : List ℕ) (m : Met) where
   broken_first letters.Restoring e has s u k = absurd has
   broken_first letters.NoLetter e has s u k = absurd has
 
-made_read : (letter : Letter) (ls : List ℕ) (a b : Option (List ℕ)) (p q : Place) → HasLiterals letter → WhereTold a b (λ t u. ReadsRest literals_rest (Ok ls) p t q u)
-    → WhereTold a b (λ t u. ReadsRest (event_at letter) (Ok (made letter ls)) p t q u)
-made_read letters.Input ls a b p q has h = rest_as literals_rest (event_at letters.Input) events.Input (λ ws. literals_as events.Input ws) ls a b p q h
-made_read letters.Query ls a b p q has h = rest_as literals_rest (event_at letters.Query) events.Query (λ ws. literals_as events.Query ws) ls a b p q h
-made_read letters.Model ls a b p q has h = rest_as literals_rest (event_at letters.Model) events.Model (λ ws. literals_as events.Model ws) ls a b p q h
-made_read letters.Core ls a b p q has h = rest_as literals_rest (event_at letters.Core) events.Core (λ ws. literals_as events.Core ws) ls a b p q h
-made_read letters.Status ls a b p q has h = absurd has
-made_read letters.Lemma ls a b p q has h = absurd has
-made_read letters.Deletion ls a b p q has h = absurd has
-made_read letters.Weakening ls a b p q has h = absurd has
-made_read letters.Restoring ls a b p q has h = absurd has
-made_read letters.NoLetter ls a b p q has h = absurd has
+made_read : (letter : Letter) (ls : List ℕ) (o n : Reader) → HasLiterals letter → BodyRead literals_body o n (Ok ls) → BodyRead (event_at letter) o n (Ok (made letter ls))
+made_read letters.Input ls o n has h = body_as literals_body (event_at letters.Input) events.Input (λ ws. literals_as events.Input ws) ls o n h
+made_read letters.Query ls o n has h = body_as literals_body (event_at letters.Query) events.Query (λ ws. literals_as events.Query ws) ls o n h
+made_read letters.Model ls o n has h = body_as literals_body (event_at letters.Model) events.Model (λ ws. literals_as events.Model ws) ls o n h
+made_read letters.Core ls o n has h = body_as literals_body (event_at letters.Core) events.Core (λ ws. literals_as events.Core ws) ls o n h
+made_read letters.Status ls o n has h = absurd has
+made_read letters.Lemma ls o n has h = absurd has
+made_read letters.Deletion ls o n has h = absurd has
+made_read letters.Weakening ls o n has h = absurd has
+made_read letters.Restoring ls o n has h = absurd has
+made_read letters.NoLetter ls o n has h = absurd has
 
-pub literals_meet : (letter : Letter) (e : Event) (qs : List ℕ) (m : Met) (o n : Place) (a b : Option (List ℕ)) → HasLiterals letter → LiteralsMet (event_literals e) (assumed_in letter qs) m o a n b
-    → RestMeets letter e qs (rule_of letter e m) o a n b
-literals_meet letter e qs m o n a b has h = record {
+pub literals_meet : (letter : Letter) (e : Event) (qs : List ℕ) (m : Met) (o n : Reader) → HasLiterals letter → LiteralsMet (event_literals e) (assumed_in letter qs) m o n → BodyMeets letter e qs (rule_of letter e m) o n
+literals_meet letter e qs m o n has h = record {
   partner = made letter h.literals;
   rule = broken_first qs h.literals m letter e has h.stranger h.unmet h.claim;
-  told = made_read letter h.literals (ahead o a) (ahead n b) o n has h.told;
+  read = made_read letter h.literals o n has h.read;
 }
 
 -- a fault behind such a letter
-pub literals_broken : (letter : Letter) (fault : LineFault) (a b : Option (List ℕ)) (p q : Place) → HasLiterals letter → WhereTold a b (λ t u. ReadsRest literals_rest (Err fault) p t q u)
-    → WhereTold a b (λ t u. ReadsRest (event_at letter) (Err fault) p t q u)
-literals_broken letters.Input fault a b p q has h = literals_fault letters.Input events.Input (λ ws. refl) fault a b p q h
-literals_broken letters.Query fault a b p q has h = literals_fault letters.Query events.Query (λ ws. refl) fault a b p q h
-literals_broken letters.Model fault a b p q has h = literals_fault letters.Model events.Model (λ ws. refl) fault a b p q h
-literals_broken letters.Core fault a b p q has h = literals_fault letters.Core events.Core (λ ws. refl) fault a b p q h
-literals_broken letters.Status fault a b p q has h = absurd has
-literals_broken letters.Lemma fault a b p q has h = absurd has
-literals_broken letters.Deletion fault a b p q has h = absurd has
-literals_broken letters.Weakening fault a b p q has h = absurd has
-literals_broken letters.Restoring fault a b p q has h = absurd has
-literals_broken letters.NoLetter fault a b p q has h = absurd has
+pub literals_broken : (letter : Letter) (fault : LineFault) (o n : Reader) → HasLiterals letter → BodyRead literals_body o n (Err fault) → BodyRead (event_at letter) o n (Err fault)
+literals_broken letters.Input fault o n has h = literals_fault letters.Input events.Input (λ ws. refl) fault o n h
+literals_broken letters.Query fault o n has h = literals_fault letters.Query events.Query (λ ws. refl) fault o n h
+literals_broken letters.Model fault o n has h = literals_fault letters.Model events.Model (λ ws. refl) fault o n h
+literals_broken letters.Core fault o n has h = literals_fault letters.Core events.Core (λ ws. refl) fault o n h
+literals_broken letters.Status fault o n has h = absurd has
+literals_broken letters.Lemma fault o n has h = absurd has
+literals_broken letters.Deletion fault o n has h = absurd has
+literals_broken letters.Weakening fault o n has h = absurd has
+literals_broken letters.Restoring fault o n has h = absurd has
+literals_broken letters.NoLetter fault o n has h = absurd has
 
-pub status_meets : (e : Event) (qs : List ℕ) (answer : Option Rule) (status : StatusWord) (o n : Place) (a b : Option (List ℕ)) → slice_get (pair_faults qs e (events.Status status)) 0 ≡ answer
-    → WhereTold (ahead o a) (ahead n b) (λ t u. ReadsRest status_rest (Ok status) o t n u) → RestMeets letters.Status e qs answer o a n b
-status_meets e qs answer status o n a b rule h = record {
+pub status_meets : (e : Event) (qs : List ℕ) (answer : Option Rule) (status : StatusWord) (o n : Reader) → slice_get (pair_faults qs e (events.Status status)) 0 ≡ answer
+    → BodyRead status_body o n (Ok status) → BodyMeets letters.Status e qs answer o n
+status_meets e qs answer status o n rule h = record {
   partner = events.Status status;
   rule = rule;
-  told = rest_as status_rest (event_at letters.Status) events.Status (λ ws. status_as events.Status ws) status (ahead o a) (ahead n b) o n h;
+  read = body_as status_body (event_at letters.Status) events.Status (λ ws. status_as events.Status ws) status o n h;
 }
 
 -- ---- The whole line
 
-fault_answers : (e : Event) (qs : List ℕ) (fault : LineFault) (o q : Place) (t v : List ℕ) → LineAnswers icnf_line o t q v (Err fault) → Matches e qs o t q v (Err (match_fault fault))
-fault_answers e qs (faults.Syntax r) o q t v h = h
-fault_answers e qs faults.Read o q t v h = tt
-fault_answers e qs faults.Memory o q t v h = tt
+module _ (e : Event) (qs : List ℕ) where
+  line_agrees : (partner : Event) (o n : Reader) → slice_get (pair_faults qs e partner) 0 ≡ None → LineRead icnf_line o n (Ok (Some partner)) → LineMatched e qs o n (Ok Agrees)
+  line_agrees partner o n rule h = record {
+    moves = h.moves;
+    told = told_map _ _ _ (λ t v. Matches e qs o.place t n.place v (Ok Agrees)) h.told (λ t v says. record { partner = partner; says = says; rule = rule });
+    count = h.count;
+    read = λ f. cc f;
+  }
 
-pub matches : (letter : Letter) (e : Event) (qs : List ℕ) (r : Result (Option Rule) LineFault) (o p q : Place) (a b d : Option (List ℕ)) → q.line ≡ p.line
-    → WhereTold a (ahead p b) (λ t u. Entered letter o t p u) → RestAnswers letter e qs r p b q d → WhereTold a (ahead q d) (λ t v. Matches e qs o t q v (answer_of r))
-matches letter e qs (Ok None) o p q a b d stays entered h =
-    told_map a (ahead q d) _ _ (line_read event_at (λ ws. refl) icnf_line icnf_line_is letter h.partner a (ahead p b) (ahead q d) o p q stays entered h.told)
-    (λ t v says. record { partner = h.partner; says = says; rule = h.rule })
-matches letter e qs (Ok (Some rule)) o p q a b d stays entered h =
-    told_map a (ahead q d) _ _ (line_read event_at (λ ws. refl) icnf_line icnf_line_is letter h.partner a (ahead p b) (ahead q d) o p q stays entered h.told)
-    (λ t v says. record { partner = h.partner; says = says; rule = h.rule })
-matches letter e qs (Err fault) o p q a b d stays entered h =
-    told_map a (ahead q d) _ _ (line_broken event_at (λ ws. refl) icnf_line icnf_line_is letter fault a (ahead p b) (ahead q d) o p q stays entered h)
-    (λ t v k. fault_answers e qs fault o q t v k)
+  line_differs : (partner : Event) (r : Rule) (o n : Reader) → slice_get (pair_faults qs e partner) 0 ≡ Some r → LineRead icnf_line o n (Ok (Some partner)) → LineMatched e qs o n (Ok (Differs r))
+  line_differs partner r o n rule h = record {
+    moves = h.moves;
+    told = told_map _ _ _ (λ t v. Matches e qs o.place t n.place v (Ok (Differs r))) h.told (λ t v says. record { partner = partner; says = says; rule = rule });
+    count = h.count;
+    read = λ f. cc f;
+  }
 
-pub not_entered : (e : Event) (qs : List ℕ) (fault : LineFault) (o q : Place) (a d : Option (List ℕ)) → WhereTold a d (λ t v. Enters o t q v (Err fault)) → WhereTold a d (λ t v. Matches e qs o t q v (Err (match_fault fault)))
-not_entered e qs fault o q a d h = told_map a d _ _ (line_not_entered event_at (λ ws. refl) icnf_line icnf_line_is fault a d o q h) (λ t v k. fault_answers e qs fault o q t v k)
+  -- a fault of the line, which isn't want of memory
+  line_at_fault : (fault : LineFault) (o n : Reader) → (fault ≡ faults.Memory → ⊥) → LineRead icnf_line o n (Err fault) → LineMatched e qs o n (Err (match_fault fault))
+  line_at_fault (faults.Syntax r) o n none h = record { moves = h.moves; told = h.told; count = h.count; read = λ f. cc f }
+  line_at_fault faults.Read o n none h = record { moves = h.moves; told = h.told; count = h.count; read = λ f. h.read refl }
+  line_at_fault faults.Memory o n none h = absurd (none refl)
+
+  pub matches : (letter : Letter) (r : Result (Option Rule) LineFault) (o m n : Reader) → (r ≡ Err faults.Memory → ⊥) → LetterRead o m (Ok (Some letter)) → BodyAnswers letter e qs m n r
+      → LineMatched e qs o n (answer_of r)
+  matches letter (Ok None) o m n none entered h = line_agrees h.partner o n h.rule (line_read event_at (λ ws. refl) icnf_line icnf_line_is letter h.partner o m n entered h.read)
+  matches letter (Ok (Some rule)) o m n none entered h = line_differs h.partner rule o n h.rule (line_read event_at (λ ws. refl) icnf_line icnf_line_is letter h.partner o m n entered h.read)
+  matches letter (Err fault) o m n none entered h =
+      line_at_fault fault o n (λ f. none (ap (λ z. Err z) f)) (line_broken event_at (λ ws. refl) icnf_line icnf_line_is letter fault o m n entered h)
+
+  pub not_entered : (fault : LineFault) (o n : Reader) → (fault ≡ faults.Memory → ⊥) → LetterRead o n (Err fault) → LineMatched e qs o n (Err (match_fault fault))
+  not_entered fault o n none h = line_at_fault fault o n none (line_not_entered event_at (λ ws. refl) icnf_line icnf_line_is fault o n h)

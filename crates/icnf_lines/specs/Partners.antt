@@ -1,4 +1,4 @@
--- What the rest of a line of the interaction answers, held against the proof's event.
+-- What the body of a line of the interaction answers, held against the proof's event.
 use Rattle.std.specs.Prelude.{◌≡◌, ℕ, not, List, [], Option, Some, None, Ok, Err, option_map, find, slice_get}
 use Rattle.std.specs.Option.{option_or}
 use Rattle.std.specs.declared.result.Result.{Result}
@@ -13,8 +13,8 @@ use Rattle.session_rules.specs.declared.LineFault.TheVariants as faults
 use Rattle.session_rules.specs.History.{first_missing}
 use Rattle.session_rules.specs.Pair.{pair_faults}
 use Rattle.session_rules.specs.Reading.{event_at}
-use Rattle.slice_tokens.specs.Place.{Place, ahead, WhereTold}
-use Rattle.line_reading.specs.Whole.{ReadsRest, literals_rest}
+use Rattle.line_reading.specs.Readers.{Reader, BodyRead}
+use Rattle.line_reading.specs.Whole.{literals_body}
 use Rattle.icnf_lines.specs.declared.marks.Mark.{Mark}
 use Rattle.icnf_lines.specs.declared.meeting.Found.{Found}
 use Rattle.icnf_lines.specs.declared.meeting.Met.{Met}
@@ -31,38 +31,38 @@ pub record KeepsBlank (old new : List Mark) : Type 0 where
   pub each : (l : ℕ) → mark_at old l ≡ blank → mark_at new l ≡ blank
 
 -- the line has these literals; they were marked as met, and the first of them that isn't held was found, and that isn't assumed
-pub record LiteralsFound (start now : List Mark) (f : Found) (old : Place) (before : Option (List ℕ)) (new : Place) (after : Option (List ℕ)) : Type 0 where
+pub record LiteralsFound (start now : List Mark) (found : Found) (old new : Reader) : Type 0 where
   pub literals : List ℕ
   pub marks : Changes also_met start now literals
-  pub stranger : f.stranger ≡ find (λ l. not (mark_at start l).held) literals
-  pub claim : f.claim ≡ find (λ l. not (mark_at start l).assumed) literals
-  pub told : WhereTold (ahead old before) (ahead new after) (λ t u. ReadsRest literals_rest (Ok literals) old t new u)
+  pub stranger : found.stranger ≡ find (λ l. not (mark_at start l).held) literals
+  pub claim : found.claim ≡ find (λ l. not (mark_at start l).assumed) literals
+  pub read : BodyRead literals_body old new (Ok literals)
 
-abbrev pub FindsLiterals : List Mark → List Mark → Result Found LineFault → Place → Option (List ℕ) → Place → Option (List ℕ) → Type 0
-FindsLiterals start now (Ok f) old before new after = LiteralsFound start now f old before new after
-FindsLiterals start now (Err e) old before new after = WhereTold (ahead old before) (ahead new after) (λ t u. ReadsRest literals_rest (Err e) old t new u)
+abbrev pub FindsLiterals : List Mark → List Mark → Reader → Reader → Result Found LineFault → Type 0
+FindsLiterals start now old new (Ok found) = LiteralsFound start now found old new
+FindsLiterals start now old new (Err fault) = BodyRead literals_body old new (Err fault)
 
 -- ---- Literals against literals
 
 -- the line has these literals; the first of them that isn't one of an event's, the first of the event's that isn't one of
 -- them, and the first of them that isn't assumed
-pub record LiteralsMet (c qs : List ℕ) (m : Met) (old : Place) (before : Option (List ℕ)) (new : Place) (after : Option (List ℕ)) : Type 0 where
+pub record LiteralsMet (held assumed : List ℕ) (met : Met) (old new : Reader) : Type 0 where
   pub literals : List ℕ
-  pub stranger : m.stranger ≡ first_missing literals c
-  pub unmet : m.unmet ≡ first_missing c literals
-  pub claim : m.claim ≡ first_missing literals qs
-  pub told : WhereTold (ahead old before) (ahead new after) (λ t u. ReadsRest literals_rest (Ok literals) old t new u)
+  pub stranger : met.stranger ≡ first_missing literals held
+  pub unmet : met.unmet ≡ first_missing held literals
+  pub claim : met.claim ≡ first_missing literals assumed
+  pub read : BodyRead literals_body old new (Ok literals)
 
-abbrev pub MeetsLiterals : List ℕ → List ℕ → Result Met LineFault → Place → Option (List ℕ) → Place → Option (List ℕ) → Type 0
-MeetsLiterals c qs (Ok m) old before new after = LiteralsMet c qs m old before new after
-MeetsLiterals c qs (Err e) old before new after = WhereTold (ahead old before) (ahead new after) (λ t u. ReadsRest literals_rest (Err e) old t new u)
+abbrev pub MeetsLiterals : List ℕ → List ℕ → Reader → Reader → Result Met LineFault → Type 0
+MeetsLiterals held assumed old new (Ok met) = LiteralsMet held assumed met old new
+MeetsLiterals held assumed old new (Err fault) = BodyRead literals_body old new (Err fault)
 
 -- ---- The rule that is broken
 
 -- the literals that count as assumed in a line with this letter
 abbrev pub assumed_in : Letter → List ℕ → List ℕ
-assumed_in letters.Core qs = qs
-assumed_in _ qs = []
+assumed_in letters.Core assumed = assumed
+assumed_in _ assumed = []
 
 -- the sets differ where one has a literal that the other lacks
 abbrev pub content_rule : Option ℕ → Option ℕ → Option Rule
@@ -85,17 +85,17 @@ HasLiterals letters.Model = Unit {0}
 HasLiterals letters.Core = Unit {0}
 HasLiterals _ = ⊥
 
--- ---- Rests
+-- ---- What stands behind a letter
 
 -- behind the letter stands what makes it an event that breaks this rule first
-pub record RestMeets (letter : Letter) (e : Event) (qs : List ℕ) (answer : Option Rule) (old : Place) (before : Option (List ℕ)) (new : Place) (after : Option (List ℕ)) : Type 0 where
+pub record BodyMeets (letter : Letter) (event : Event) (assumed : List ℕ) (answer : Option Rule) (old new : Reader) : Type 0 where
   pub partner : Event
-  pub rule : slice_get (pair_faults qs e partner) 0 ≡ answer
-  pub told : WhereTold (ahead old before) (ahead new after) (λ t u. ReadsRest (event_at letter) (Ok partner) old t new u)
+  pub rule : slice_get (pair_faults assumed event partner) 0 ≡ answer
+  pub read : BodyRead (event_at letter) old new (Ok partner)
 
-abbrev pub RestAnswers : Letter → Event → List ℕ → Result (Option Rule) LineFault → Place → Option (List ℕ) → Place → Option (List ℕ) → Type 0
-RestAnswers letter e qs (Ok answer) old before new after = RestMeets letter e qs answer old before new after
-RestAnswers letter e qs (Err fault) old before new after = WhereTold (ahead old before) (ahead new after) (λ t u. ReadsRest (event_at letter) (Err fault) old t new u)
+abbrev pub BodyAnswers : Letter → Event → List ℕ → Reader → Reader → Result (Option Rule) LineFault → Type 0
+BodyAnswers letter event assumed old new (Ok answer) = BodyMeets letter event assumed answer old new
+BodyAnswers letter event assumed old new (Err fault) = BodyRead (event_at letter) old new (Err fault)
 
 -- a fault of a line, which isn't want of memory
 abbrev pub match_fault : LineFault → MatchFault

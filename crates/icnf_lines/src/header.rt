@@ -1,14 +1,10 @@
 // How a stream's header is read.
 ghost use Rattle.std.specs.Prelude.{◌≡◌, ◌≤◌, IsErrOf, length};
-ghost use Rattle.outside.specs.Faults.{Rose};
 ghost use Rattle.session_rules.specs.Reading.{header_line};
 ghost use Rattle.session_rules.specs.declared.LineFault.{LineFault};
-ghost use Rattle.slice_tokens.specs.Place.{ahead, WhereTold};
-ghost use Rattle.slice_tokens.specs.Calls.{Moves};
-ghost use Rattle.line_reading.specs.Parts.{Stays};
-ghost use Rattle.line_reading.specs.Whole.{ReadsRest};
+ghost use Rattle.line_reading.specs.Readers.{reader, BodyRead};
 ghost use Rattle.icnf_lines.specs.declared.header.HeaderFault.{HeaderFault};
-ghost use Rattle.icnf_lines.specs.Headers.{HeaderAnswers, SameFault, stream_fault_of};
+ghost use Rattle.icnf_lines.specs.Headers.{HeaderRead, SameFault, stream_fault_of};
 
 use line_reading::{expect_end, expect_word};
 use outside::Source;
@@ -30,11 +26,9 @@ pub enum HeaderFault {
 // The words of the header of this name, to the line's end.
 fn header_words<S: Source>(window: &mut Window, src: &mut S, name: &[u8]) -> Result<(), LineFault>
     requires short { length name.now ≤ 32 }
-    ensures stays { Stays window.old window.new }
-    ensures told { WhereTold (ahead window.old (S.left src.old)) (ahead window.new (S.left src.new))
-        (λ bytes rest. ReadsRest (header_line name.now) result window.old bytes window.new rest) }
-    ensures count { S.faults src.old ≤ S.faults src.new }
-    ensures read { IsErrOf result LineFault.Read → Rose (S.faults src.old) (S.faults src.new) }
+    ensures body {
+        let at = reader S.left S.faults in
+        BodyRead (header_line name.now) (at window.old src.old) (at window.new src.new) result }
     ensures memory { IsErrOf result LineFault.Memory → ⊥ }
 {
     match expect_word(window, src, b"p", Rule::Header) {
@@ -77,18 +71,17 @@ fn header_fault(fault: LineFault) -> HeaderFault
 /// # Errors
 ///
 /// `Syntax` comes exactly where the line isn't that header, or the stream has no content line; the window then stands in
-/// that line, or at the end of the stream. `Read` comes only where the source's count rose.
+/// that line, or at the end of the stream. `Read` comes only where the source's count rose; the window then stands in the
+/// line that was being read, or before it where no content line was reached.
 pub fn read_header<S: Source>(
     window: &mut Window,
     src: &mut S,
     name: &[u8],
 ) -> Result<(), HeaderFault>
     requires short { length name.now ≤ 32 }
-    ensures moves { Moves window.old window.new }
-    ensures told { WhereTold (ahead window.old (S.left src.old)) (ahead window.new (S.left src.new))
-        (λ bytes rest. HeaderAnswers name.now window.old bytes window.new rest result) }
-    ensures count { S.faults src.old ≤ S.faults src.new }
-    ensures read { IsErrOf result HeaderFault.Read → Rose (S.faults src.old) (S.faults src.new) }
+    ensures {
+        let at = reader S.left S.faults in
+        HeaderRead name.now (at window.old src.old) (at window.new src.new) result }
 {
     match window.next_line(src) {
         Ok(true) => match header_words(window, src, name) {

@@ -1,6 +1,6 @@
 // A table with marks for each literal, at the place of its code.
 
-ghost use Rattle.std.specs.Prelude.{◌≡◌, ◌≤◌, ◌∷◌, [], length, not, max, All, OnOk, OnErr};
+ghost use Rattle.std.specs.Prelude.{◌≡◌, ◌≤◌, ◌∷◌, [], length, not, max, All, IsOk, OnOk, OnErr};
 ghost use Rattle.std.specs.List.{find};
 ghost use Rattle.lits.specs.Literal.{max_var};
 ghost use Rattle.icnf_lines.specs.Marks.{mark_at, HasPlace, also_held, also_assumed, also_met, cleared, Changes};
@@ -55,10 +55,12 @@ impl Marks {
         }
     }
 
-    /// Reserves the variables up to this one. An error, which means want of memory, leaves all as it was.
+    /// Reserves the variables up to this one. Where it is reserved already, nothing is done, and no memory is taken. An error,
+    /// which means want of memory, leaves all as it was.
     pub fn reserve(&mut self, vars: u32) -> Result<(), AllocError>
         requires { vars ≤ max_var }
         ensures ok { OnOk result (self.new ≡ max self.old vars) }
+        ensures reserved { vars ≤ self.old → IsOk result }
         ensures err { OnErr result (self.new ≡ self.old) }
     {
         if vars <= self.reserved {

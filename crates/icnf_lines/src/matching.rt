@@ -1,20 +1,16 @@
 // How a line of the interaction is held against the proof's event: the event's literals are marked in a table, and the
 // line's are looked up there as they come, so that no list is stored.
 
-ghost use Rattle.std.specs.Prelude.{◌≡◌, ◌+◌, ◌≤◌, ℕ, List, length, slice_get, option_map, All, IsErrOf};
+ghost use Rattle.std.specs.Prelude.{◌≡◌, ◌≤◌, ℕ, List, length, slice_get, option_map, All, IsErrOf};
 ghost use Rattle.std.specs.Option.{option_or};
 ghost use Rattle.lits.specs.Literal.{var};
-ghost use Rattle.outside.specs.Faults.{Rose};
 ghost use Rattle.session_rules.specs.declared.LineFault.{LineFault};
 ghost use Rattle.session_rules.specs.declared.Event.{Event};
 ghost use Rattle.session_rules.specs.History.{event_literals};
-ghost use Rattle.session_rules.specs.Lines.{most_bytes};
 ghost use Rattle.session_rules.specs.Pair.{pair_faults, same_status};
-ghost use Rattle.slice_tokens.specs.Place.{ahead, WhereTold};
-ghost use Rattle.slice_tokens.specs.Calls.{Moves};
-ghost use Rattle.line_reading.specs.Parts.{Stays};
+ghost use Rattle.line_reading.specs.Readers.{reader};
 ghost use Rattle.icnf_lines.specs.Marks.{HasPlace, IsBlank};
-ghost use Rattle.icnf_lines.specs.Matching.{Matches};
+ghost use Rattle.icnf_lines.specs.Matching.{LineMatched};
 ghost use Rattle.icnf_lines.specs.Partners as partners;
 
 #[cfg(test)]
@@ -22,7 +18,7 @@ mod tests;
 
 use crate::marks::{Mark, Marks};
 use crate::meeting::{Met, meet};
-use line_reading::{enter_line, status_rest};
+use line_reading::{enter_line, status_body};
 use lits::Lit;
 use outside::Source;
 use session_rules::{Event, Letter, LineFault, Rule, StatusWord};
@@ -58,7 +54,8 @@ pub enum MatchFault {
 /// # Errors
 ///
 /// `Syntax` comes exactly where the line breaks a rule of syntax, and is that of its first word at fault; the window then
-/// stands in that line. `Read` comes only where the source's count rose. The table has no mark after either.
+/// stands in that line. `Read` comes only where the source's count rose; the window then stands in the line that was being read,
+/// or before it where no content line was reached. The table has no mark after either.
 pub fn match_line<S: Source>(
     window: &mut Window,
     src: &mut S,
@@ -68,12 +65,10 @@ pub fn match_line<S: Source>(
 ) -> Result<Match, MatchFault>
     requires event { All (λ l. var l ≤ marks.old) (event_literals event.now) }
     requires assumed { All (λ l. var l ≤ marks.old) assumed.now }
-    ensures moves { Moves window.old window.new }
+    ensures line {
+        let at = reader S.left S.faults in
+        LineMatched event.now assumed.now (at window.old src.old) (at window.new src.new) result }
     ensures marks { marks.new ≡ marks.old }
-    ensures told { WhereTold (ahead window.old (S.left src.old)) (ahead window.new (S.left src.new))
-        (λ bytes rest. Matches event.now assumed.now window.old bytes window.new rest result) }
-    ensures count { S.faults src.old ≤ S.faults src.new }
-    ensures read { IsErrOf result MatchFault.Read → Rose (S.faults src.old) (S.faults src.new) }
 {
     match enter_line(window, src) {
         Ok(None) => Ok(Match::Ended),
@@ -115,27 +110,28 @@ fn partner_rule<S: Source>(
     assumed: &[Lit],
     table: &mut [Mark],
 ) -> Result<Option<Rule>, LineFault>
-    requires bounded { window.old.passed ≤ most_bytes }
-    requires counted { window.old.line ≤ window.old.passed + 1 }
     requires event { All (HasPlace (length table.old)) (event_literals event.now) }
     requires assumed { All (HasPlace (length table.old)) assumed.now }
     requires blank { IsBlank table.old }
-    ensures stays { Stays window.old window.new }
+    ensures rule {
+        let at = reader S.left S.faults in
+        partners.BodyAnswers letter event.now assumed.now
+            (at window.old src.old) (at window.new src.new) result }
     ensures blank { IsBlank table.new }
-    ensures told { partners.RestAnswers letter event.now assumed.now result window.old (S.left src.old) window.new (S.left src.new) }
-    ensures count { S.faults src.old ≤ S.faults src.new }
-    ensures read { IsErrOf result LineFault.Read → Rose (S.faults src.old) (S.faults src.new) }
     ensures memory { IsErrOf result LineFault.Memory → ⊥ }
 {
     match letter {
         Letter::Input | Letter::Query | Letter::Model | Letter::Core => literals_rule(
             window, src, letter, event, assumed, table,
         ),
-        Letter::Status => match status_rest(window, src) {
+        Letter::Status => match status_body(window, src) {
             Ok(status) => Ok(status_rule(event, status)),
             Err(fault) => Err(fault),
         },
-        _ => Err(LineFault::Syntax(Rule::Letter)),
+        _ => {
+            window.recall_bounds();
+            Err(LineFault::Syntax(Rule::Letter))
+        }
     }
 }
 
@@ -145,7 +141,7 @@ fn status_rule(event: &Event, status: StatusWord) -> Option<Rule>
     ensures { (qs : List ℕ) → slice_get (pair_faults qs event.now (Event.Status status)) 0 ≡ result }
 {
     match event {
-        Event::Status(told) => if same_status(*told, status) {
+        Event::Status(expected) => if same_status(*expected, status) {
             None
         } else {
             Some(Rule::Status)
@@ -178,11 +174,11 @@ fn literals_rule<S: Source>(
     requires event { All (HasPlace (length table.old)) (event_literals event.now) }
     requires assumed { All (HasPlace (length table.old)) assumed.now }
     requires blank { IsBlank table.old }
-    ensures stays { Stays window.old window.new }
+    ensures rule {
+        let at = reader S.left S.faults in
+        partners.BodyAnswers letter event.now assumed.now
+            (at window.old src.old) (at window.new src.new) result }
     ensures blank { IsBlank table.new }
-    ensures told { partners.RestAnswers letter event.now assumed.now result window.old (S.left src.old) window.new (S.left src.new) }
-    ensures count { S.faults src.old ≤ S.faults src.new }
-    ensures read { IsErrOf result LineFault.Read → Rose (S.faults src.old) (S.faults src.new) }
     ensures memory { IsErrOf result LineFault.Memory → ⊥ }
 {
     match meet(

@@ -4,12 +4,12 @@
 ghost use Rattle.std.specs.Prelude.{◌≡◌, ◌≤◌, ℕ, List, [], length, if◌then◌else◌, All, IsErrOf, Option, Ok, false};
 ghost use Rattle.std.specs.Bool.{OnTrue};
 ghost use Rattle.std.specs.Option.{option_or};
-ghost use Rattle.outside.specs.Faults.{Rose};
 ghost use Rattle.session_rules.specs.declared.LineFault.{LineFault};
 ghost use Rattle.session_rules.specs.History.{first_missing};
 ghost use Rattle.session_rules.specs.Reading.{literal_list};
-ghost use Rattle.slice_tokens.specs.Place.{Place, ahead, WhereTold};
+ghost use Rattle.slice_tokens.specs.Place.{ahead, WhereTold};
 ghost use Rattle.line_reading.specs.Parts.{ReadsPart, Stays};
+ghost use Rattle.line_reading.specs.Readers.{Reader, reader, PartRead};
 ghost use Rattle.icnf_lines.specs.Marks.{HasPlace, IsBlank};
 ghost use Rattle.icnf_lines.specs.Partners as partners;
 
@@ -50,11 +50,10 @@ fn pass_same(window: &mut Window, held: &[Lit], assumed: &[Lit]) -> bool
 
 /// Reads the end of a line whose literals are an event's, where nothing is assumed.
 fn meet_same<S: Source>(window: &mut Window, src: &mut S, held: &[Lit]) -> Result<Met, LineFault>
-    ensures stays { Stays window.old window.new }
-    ensures told { (o : Place) (before : Option (List ℕ)) → WhereTold (ahead o before) (ahead window.old (S.left src.old)) (λ t u. ReadsPart literal_list (Ok held.now) o t window.old u)
-        → partners.MeetsLiterals held.now [] result o before window.new (S.left src.new) }
-    ensures count { S.faults src.old ≤ S.faults src.new }
-    ensures read { IsErrOf result LineFault.Read → Rose (S.faults src.old) (S.faults src.new) }
+    ensures met {
+        let at = reader S.left S.faults in
+        (start : Reader) → PartRead literal_list start (at window.old src.old) (Ok held.now)
+        → partners.MeetsLiterals held.now [] start (at window.new src.new) result }
     ensures memory { IsErrOf result LineFault.Memory → ⊥ }
 {
     match end_line(window, src) {
@@ -67,7 +66,7 @@ fn meet_same<S: Source>(window: &mut Window, src: &mut S, held: &[Lit]) -> Resul
     }
 }
 
-/// Holds the rest of a line, literals and a 0, against an event's literals and those that are assumed. The table has no mark
+/// Holds the body of a line, literals and a 0, against an event's literals and those that are assumed. The table has no mark
 /// then, also after an error. Where nothing is assumed a look tells whether the line has the same literals in the same order,
 /// as nearly every line has, and nothing is marked.
 pub(crate) fn meet<S: Source>(
@@ -80,11 +79,11 @@ pub(crate) fn meet<S: Source>(
     requires held { All (HasPlace (length table.old)) held.now }
     requires assumed { All (HasPlace (length table.old)) assumed.now }
     requires blank { IsBlank table.old }
-    ensures stays { Stays window.old window.new }
+    ensures met {
+        let at = reader S.left S.faults in
+        partners.MeetsLiterals held.now assumed.now
+            (at window.old src.old) (at window.new src.new) result }
     ensures blank { IsBlank table.new }
-    ensures told { partners.MeetsLiterals held.now assumed.now result window.old (S.left src.old) window.new (S.left src.new) }
-    ensures count { S.faults src.old ≤ S.faults src.new }
-    ensures read { IsErrOf result LineFault.Read → Rose (S.faults src.old) (S.faults src.new) }
     ensures memory { IsErrOf result LineFault.Memory → ⊥ }
 {
     if pass_same(window, held, assumed) {
@@ -113,17 +112,17 @@ struct Found {
     claim: Option<Lit>,
 }
 
-/// Reads the rest of a line, literals and a 0, and marks the literals as met that are held.
+/// Reads the body of a line, literals and a 0, and marks the literals as met that are held.
 fn find_literals<S: Source>(
     window: &mut Window,
     src: &mut S,
     table: &mut [Mark],
 ) -> Result<Found, LineFault>
-    ensures stays { Stays window.old window.new }
+    ensures found {
+        let at = reader S.left S.faults in
+        partners.FindsLiterals table.old table.new
+            (at window.old src.old) (at window.new src.new) result }
     ensures kept { partners.KeepsBlank table.old table.new }
-    ensures told { partners.FindsLiterals table.old table.new result window.old (S.left src.old) window.new (S.left src.new) }
-    ensures count { S.faults src.old ≤ S.faults src.new }
-    ensures read { IsErrOf result LineFault.Read → Rose (S.faults src.old) (S.faults src.new) }
     ensures memory { IsErrOf result LineFault.Memory → ⊥ }
 {
     let mut stranger = None;

@@ -1,6 +1,6 @@
 // How a header and the lines of the interaction are written.
 ghost use Rattle.session_rules.specs.Spelling.{event_words, header_words, line_text};
-ghost use Rattle.line_writing.specs.Writing.{WritesLine};
+ghost use Rattle.line_writing.specs.Writing.{writer, WritesLine};
 
 #[cfg(test)]
 mod tests;
@@ -16,8 +16,9 @@ use session_rules::{Event, WriteFault};
 /// `Exhausted` comes exactly where the line is longer than the room, `Write` only where the sink's count of faults rose
 /// or stands at its end. What each leaves is as with `line_writing::write_parts`.
 pub fn write_header<K: Sink>(sink: &mut K, room: &mut u64, name: &[u8]) -> Result<(), WriteFault>
-    ensures { WritesLine K.written K.finished K.faults sink.old sink.new room.old room.new
-        (line_text (header_words name.now)) result }
+    ensures {
+        let at = writer K.written K.finished K.faults in
+        WritesLine (line_text (header_words name.now)) (at sink.old room.old) (at sink.new room.new) result }
 {
     write_parts(sink, room, b'p', &[Part::Word(name)])
 }
@@ -29,8 +30,9 @@ pub fn write_header<K: Sink>(sink: &mut K, room: &mut u64, name: &[u8]) -> Resul
 /// `Exhausted` comes exactly where the line is longer than the room, `Write` only where the sink's count of faults rose
 /// or stands at its end. What each leaves is as with `line_writing::write_parts`.
 pub fn write_line<K: Sink>(sink: &mut K, room: &mut u64, event: &Event) -> Result<(), WriteFault>
-    ensures { WritesLine K.written K.finished K.faults sink.old sink.new room.old room.new
-        (line_text (event_words event.now)) result }
+    ensures {
+        let at = writer K.written K.finished K.faults in
+        WritesLine (line_text (event_words event.now)) (at sink.old room.old) (at sink.new room.new) result }
 {
     match event {
         Event::Input(lits) => write_parts(sink, room, b'i', &[Part::Lits(lits.as_slice())]),

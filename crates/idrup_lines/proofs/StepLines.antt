@@ -1,6 +1,5 @@
 -- What stands in a line of a proof by literals behind its letter.
 use Rattle.std.proofs.Common.{◌≡◌, ℕ, List, Ok, Err, refl, ◌∙◌}
-use Rattle.std.specs.declared.option.Option.{Option}
 use Rattle.std.specs.declared.result.Result.{Result}
 use Rattle.session_rules.specs.declared.Letter.{Letter}
 use Rattle.session_rules.specs.declared.Letter.TheVariants as letters
@@ -9,14 +8,14 @@ use Rattle.session_rules.specs.declared.Step.{Step}
 use Rattle.session_rules.specs.declared.Step.TheVariants as steps
 use Rattle.session_rules.specs.declared.LineFault.{LineFault}
 use Rattle.session_rules.specs.Reading.{Fault, ◌>>=◌, event_at, step_at, idrup_line, by_letter, of_literals}
-use Rattle.slice_tokens.specs.Place.{Place, WhereTold}
-use Rattle.line_reading.specs.Whole.{ReadsRest, literals_rest}
-use Rattle.line_reading.proofs.Resting.{mapped}
-use Rattle.line_reading.proofs.ByLetter.{literals_as, rest_as, rest_fails}
+use Rattle.line_reading.specs.Readers.{Reader, BodyRead}
+use Rattle.line_reading.specs.Whole.{literals_body}
+use Rattle.line_reading.proofs.WholeBodies.{mapped}
+use Rattle.line_reading.proofs.ByLetter.{literals_as, body_as, body_fails}
 
-pub literals_fault : (letter : Letter) (f : List ℕ → Step) → ((ws : List (List ℕ)) → step_at letter ws ≡ of_literals f ws) → (e : LineFault) (a b : Option (List ℕ)) (p q : Place)
-    → WhereTold a b (λ t u. ReadsRest literals_rest (Err e) p t q u) → WhereTold a b (λ t u. ReadsRest (step_at letter) (Err e) p t q u)
-literals_fault letter f same e a b p q h = rest_fails literals_rest (step_at letter) f (λ ws. same ws ∙ literals_as f ws) e a b p q h
+pub literals_fault : (letter : Letter) (f : List ℕ → Step) → ((ws : List (List ℕ)) → step_at letter ws ≡ of_literals f ws) → (e : LineFault) (o n : Reader)
+    → BodyRead literals_body o n (Err e) → BodyRead (step_at letter) o n (Err e)
+literals_fault letter f same e o n h = body_fails literals_body (step_at letter) f (λ ws. same ws ∙ literals_as f ws) e o n h
 
 as_event : (o : Result Event Fault) → (o >>= λ e. Ok (steps.Event e)) ≡ mapped steps.Event o
 as_event (Ok e) = refl
@@ -37,13 +36,11 @@ event_step letters.Core l d w r ws = as_event (event_at letters.Core ws)
 event_step letters.NoLetter l d w r ws = as_event (event_at letters.NoLetter ws)
 
 module _ (letter : Letter) (l : letter ≡ letters.Lemma → ⊥) (d : letter ≡ letters.Deletion → ⊥) (w : letter ≡ letters.Weakening → ⊥) (r : letter ≡ letters.Restoring → ⊥) where
-  pub event_read : (x : Event) (a b : Option (List ℕ)) (p q : Place) → WhereTold a b (λ t u. ReadsRest (event_at letter) (Ok x) p t q u)
-      → WhereTold a b (λ t u. ReadsRest (step_at letter) (Ok (steps.Event x)) p t q u)
-  event_read x a b p q h = rest_as (event_at letter) (step_at letter) steps.Event (event_step letter l d w r) x a b p q h
+  pub event_read : (x : Event) (o n : Reader) → BodyRead (event_at letter) o n (Ok x) → BodyRead (step_at letter) o n (Ok (steps.Event x))
+  event_read x o n h = body_as (event_at letter) (step_at letter) steps.Event (event_step letter l d w r) x o n h
 
-  pub event_fault : (e : LineFault) (a b : Option (List ℕ)) (p q : Place) → WhereTold a b (λ t u. ReadsRest (event_at letter) (Err e) p t q u)
-      → WhereTold a b (λ t u. ReadsRest (step_at letter) (Err e) p t q u)
-  event_fault e a b p q h = rest_fails (event_at letter) (step_at letter) steps.Event (event_step letter l d w r) e a b p q h
+  pub event_fault : (e : LineFault) (o n : Reader) → BodyRead (event_at letter) o n (Err e) → BodyRead (step_at letter) o n (Err e)
+  event_fault e o n h = body_fails (event_at letter) (step_at letter) steps.Event (event_step letter l d w r) e o n h
 
 -- the lines of a proof by literals are read by their letter
 pub idrup_line_is : (ws : List (List ℕ)) → by_letter step_at ws ≡ idrup_line ws

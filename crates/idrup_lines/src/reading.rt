@@ -1,20 +1,12 @@
 // How the lines of a proof by literals are read.
-ghost use Rattle.std.specs.Prelude.{◌≡◌, ◌+◌, ◌<◌, ◌≤◌, IfOk, IsErrOf, IsTrue};
-ghost use Rattle.std.specs.Option.{is_some};
-ghost use Rattle.outside.specs.Faults.{Rose};
-ghost use Rattle.session_rules.specs.declared.LineFault.{LineFault};
-ghost use Rattle.session_rules.specs.Lines.{most_bytes};
 ghost use Rattle.session_rules.specs.Reading.{idrup_line, step_at};
-ghost use Rattle.slice_tokens.specs.Place.{ahead, WhereTold};
-ghost use Rattle.slice_tokens.specs.Calls.{Moves};
-ghost use Rattle.line_reading.specs.Parts.{Stays};
-ghost use Rattle.line_reading.specs.Whole.{ReadsRest, LineAnswers};
+ghost use Rattle.line_reading.specs.Readers.{reader, BodyRead, LineRead};
 
 #[cfg(test)]
 mod tests;
 
 use icnf_lines::read_event;
-use line_reading::{Spare, enter_line, literals_rest};
+use line_reading::{Spare, enter_line, literals_body};
 use outside::Source;
 use session_rules::{Letter, LineFault, Step};
 use slice_tokens::Window;
@@ -26,19 +18,15 @@ fn read_step<S: Source>(
     src: &mut S,
     letter: Letter,
 ) -> Result<Step, LineFault>
-    requires bounded { window.old.passed ≤ most_bytes }
-    requires counted { window.old.line ≤ window.old.passed + 1 }
-    ensures stays { Stays window.old window.new }
-    ensures told { WhereTold (ahead window.old (S.left src.old)) (ahead window.new (S.left src.new))
-        (λ bytes rest. ReadsRest (step_at letter) result window.old bytes window.new rest) }
-    ensures count { S.faults src.old ≤ S.faults src.new }
-    ensures read { IsErrOf result LineFault.Read → Rose (S.faults src.old) (S.faults src.new) }
+    ensures {
+        let at = reader S.left S.faults in
+        BodyRead (step_at letter) (at window.old src.old) (at window.new src.new) result }
 {
     match letter {
-        Letter::Lemma => Ok(Step::Lemma(literals_rest(spare, window, src)?)),
-        Letter::Deletion => Ok(Step::Delete(literals_rest(spare, window, src)?)),
-        Letter::Weakening => Ok(Step::Weaken(literals_rest(spare, window, src)?)),
-        Letter::Restoring => Ok(Step::Restore(literals_rest(spare, window, src)?)),
+        Letter::Lemma => Ok(Step::Lemma(literals_body(spare, window, src)?)),
+        Letter::Deletion => Ok(Step::Delete(literals_body(spare, window, src)?)),
+        Letter::Weakening => Ok(Step::Weaken(literals_body(spare, window, src)?)),
+        Letter::Restoring => Ok(Step::Restore(literals_body(spare, window, src)?)),
         _ => Ok(Step::Event(read_event(spare, window, src, letter)?)),
     }
 }
@@ -48,18 +36,16 @@ fn read_step<S: Source>(
 /// # Errors
 ///
 /// `Syntax` comes exactly where the line breaks a rule of syntax, and is that of its first word at fault; the window then
-/// stands in that line. `Read` comes only where the source's count rose. `Memory` is want of memory.
+/// stands in that line. `Read` comes only where the source's count rose, and `Memory` is want of memory; the window then stands
+/// in the line that was being read, or, after `Read`, before it where no content line was reached.
 pub fn read_line<S: Source>(
     spare: &mut Spare,
     window: &mut Window,
     src: &mut S,
 ) -> Result<Option<Step>, LineFault>
-    ensures moves { Moves window.old window.new }
-    ensures progress { IfOk result (λ line. IsTrue (is_some line) → window.old.passed < window.new.passed) }
-    ensures told { WhereTold (ahead window.old (S.left src.old)) (ahead window.new (S.left src.new))
-        (λ bytes rest. LineAnswers idrup_line window.old bytes window.new rest result) }
-    ensures count { S.faults src.old ≤ S.faults src.new }
-    ensures read { IsErrOf result LineFault.Read → Rose (S.faults src.old) (S.faults src.new) }
+    ensures {
+        let at = reader S.left S.faults in
+        LineRead idrup_line (at window.old src.old) (at window.new src.new) result }
 {
     match enter_line(window, src) {
         Ok(None) => Ok(None),

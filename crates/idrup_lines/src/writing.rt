@@ -1,7 +1,7 @@
 // How the lines of a proof by literals are written.
 ghost use Rattle.std.specs.Prelude.{◌∷◌, []};
 ghost use Rattle.session_rules.specs.Spelling.{line_text, literal_words, step_words};
-ghost use Rattle.line_writing.specs.Writing.{WritesLine};
+ghost use Rattle.line_writing.specs.Writing.{writer, WritesLine};
 
 #[cfg(test)]
 mod tests;
@@ -18,8 +18,9 @@ use session_rules::{Step, WriteFault};
 /// `Exhausted` comes exactly where the line is longer than the room, `Write` only where the sink's count of faults rose
 /// or stands at its end. What each leaves is as with `line_writing::write_parts`.
 pub fn write_line<K: Sink>(sink: &mut K, room: &mut u64, step: &Step) -> Result<(), WriteFault>
-    ensures { WritesLine K.written K.finished K.faults sink.old sink.new room.old room.new
-        (line_text (step_words step.now)) result }
+    ensures {
+        let at = writer K.written K.finished K.faults in
+        WritesLine (line_text (step_words step.now)) (at sink.old room.old) (at sink.new room.new) result }
 {
     match step {
         Step::Event(event) => icnf_lines::write_line(sink, room, event),
@@ -42,8 +43,10 @@ pub fn write_lits<K: Sink>(
     letter: u8,
     lits: &[Lit],
 ) -> Result<(), WriteFault>
-    ensures { WritesLine K.written K.finished K.faults sink.old sink.new room.old room.new
-        (line_text ((letter ∷ []) ∷ literal_words lits.now)) result }
+    ensures {
+        let at = writer K.written K.finished K.faults in
+        WritesLine (line_text ((letter ∷ []) ∷ literal_words lits.now))
+            (at sink.old room.old) (at sink.new room.new) result }
 {
     write_parts(sink, room, letter, &[Part::Lits(lits)])
 }

@@ -4,8 +4,8 @@ use Rattle.session_rules.specs.declared.Letter.TheVariants as letters
 use Rattle.session_rules.specs.declared.LStep.{LStep}
 use Rattle.session_rules.specs.declared.LStep.TheVariants as lsteps
 use Rattle.session_rules.specs.Reading.{◌>>=◌, Part, own_id, literal_list, id_list, whole, id_step_at, lidrup_line, by_letter}
-use Rattle.line_reading.specs.Whole.{id_literals_rest, id_literals_ids_rest, literals_ids_rest}
-use Rattle.line_reading.proofs.Resting.{mapped}
+use Rattle.line_reading.specs.Whole.{id_literals_body, id_literals_ids_body, literals_ids_body}
+use Rattle.line_reading.proofs.WholeBodies.{mapped}
 
 -- a value that is read to a line's end, as another
 whole_as : {A B : Type 0} (f : A → B) (x : A) (ws : List (List ℕ)) → whole (f x) ws ≡ mapped f (whole x ws)
@@ -39,13 +39,13 @@ lemma_as : (o : Part ℕ) → (o >>= λ i. literal_list i.1 >>= λ ls. id_list l
 lemma_as (Ok i) = lists_as lemma_step (λ ls hs. (i.0, ls, hs)) (literal_list i.1)
 lemma_as (Err e) = refl
 
-pub input_step : (ws : List (List ℕ)) → id_step_at letters.Input ws ≡ mapped input (id_literals_rest ws)
+pub input_step : (ws : List (List ℕ)) → id_step_at letters.Input ws ≡ mapped input (id_literals_body ws)
 input_step ws = input_as (own_id ws)
 
-pub lemma_line : (ws : List (List ℕ)) → id_step_at letters.Lemma ws ≡ mapped lemma_step (id_literals_ids_rest ws)
+pub lemma_line : (ws : List (List ℕ)) → id_step_at letters.Lemma ws ≡ mapped lemma_step (id_literals_ids_body ws)
 lemma_line ws = lemma_as (own_id ws)
 
-pub core_step : (ws : List (List ℕ)) → id_step_at letters.Core ws ≡ mapped core (literals_ids_rest ws)
+pub core_step : (ws : List (List ℕ)) → id_step_at letters.Core ws ≡ mapped core (literals_ids_body ws)
 core_step ws = lists_as core (λ ls hs. (ls, hs)) (literal_list ws)
 
 -- the lines of a proof with ids are read by their letter

@@ -1,21 +1,13 @@
 // How the lines of a proof with ids are read.
-ghost use Rattle.std.specs.Prelude.{◌≡◌, ◌+◌, ◌<◌, ◌≤◌, IfOk, IsErrOf, IsTrue};
-ghost use Rattle.std.specs.Option.{is_some};
-ghost use Rattle.outside.specs.Faults.{Rose};
-ghost use Rattle.session_rules.specs.declared.LineFault.{LineFault};
-ghost use Rattle.session_rules.specs.Lines.{most_bytes};
 ghost use Rattle.session_rules.specs.Reading.{lidrup_line, id_step_at};
-ghost use Rattle.slice_tokens.specs.Place.{ahead, WhereTold};
-ghost use Rattle.slice_tokens.specs.Calls.{Moves};
-ghost use Rattle.line_reading.specs.Parts.{Stays};
-ghost use Rattle.line_reading.specs.Whole.{ReadsRest, LineAnswers};
+ghost use Rattle.line_reading.specs.Readers.{reader, BodyRead, LineRead};
 
 #[cfg(test)]
 mod tests;
 
 use line_reading::{
-    Spare, enter_line, id_literals_ids_rest, id_literals_rest, ids_rest, literals_ids_rest,
-    literals_rest, status_rest,
+    Spare, enter_line, id_literals_ids_body, id_literals_body, ids_body, literals_ids_body,
+    literals_body, status_body,
 };
 use outside::Source;
 use session_rules::{LStep, Letter, LineFault, Rule};
@@ -28,34 +20,33 @@ fn read_step<S: Source>(
     src: &mut S,
     letter: Letter,
 ) -> Result<LStep, LineFault>
-    requires bounded { window.old.passed ≤ most_bytes }
-    requires counted { window.old.line ≤ window.old.passed + 1 }
-    ensures stays { Stays window.old window.new }
-    ensures told { WhereTold (ahead window.old (S.left src.old)) (ahead window.new (S.left src.new))
-        (λ bytes rest. ReadsRest (id_step_at letter) result window.old bytes window.new rest) }
-    ensures count { S.faults src.old ≤ S.faults src.new }
-    ensures read { IsErrOf result LineFault.Read → Rose (S.faults src.old) (S.faults src.new) }
+    ensures {
+        let at = reader S.left S.faults in
+        BodyRead (id_step_at letter) (at window.old src.old) (at window.new src.new) result }
 {
     match letter {
         Letter::Input => {
-            let (id, lits) = id_literals_rest(spare, window, src)?;
+            let (id, lits) = id_literals_body(spare, window, src)?;
             Ok(LStep::Input { id, lits })
         }
         Letter::Lemma => {
-            let (id, lits, hints) = id_literals_ids_rest(spare, window, src)?;
+            let (id, lits, hints) = id_literals_ids_body(spare, window, src)?;
             Ok(LStep::Lemma { id, lits, hints })
         }
         Letter::Core => {
-            let (lits, hints) = literals_ids_rest(spare, window, src)?;
+            let (lits, hints) = literals_ids_body(spare, window, src)?;
             Ok(LStep::Core { lits, hints })
         }
-        Letter::Query => Ok(LStep::Query(literals_rest(spare, window, src)?)),
-        Letter::Status => Ok(LStep::Status(status_rest(window, src)?)),
-        Letter::Model => Ok(LStep::Model(literals_rest(spare, window, src)?)),
-        Letter::Deletion => Ok(LStep::Delete(ids_rest(spare, window, src)?)),
-        Letter::Weakening => Ok(LStep::Weaken(ids_rest(spare, window, src)?)),
-        Letter::Restoring => Ok(LStep::Restore(ids_rest(spare, window, src)?)),
-        Letter::NoLetter => Err(LineFault::Syntax(Rule::Letter)),
+        Letter::Query => Ok(LStep::Query(literals_body(spare, window, src)?)),
+        Letter::Status => Ok(LStep::Status(status_body(window, src)?)),
+        Letter::Model => Ok(LStep::Model(literals_body(spare, window, src)?)),
+        Letter::Deletion => Ok(LStep::Delete(ids_body(spare, window, src)?)),
+        Letter::Weakening => Ok(LStep::Weaken(ids_body(spare, window, src)?)),
+        Letter::Restoring => Ok(LStep::Restore(ids_body(spare, window, src)?)),
+        Letter::NoLetter => {
+            window.recall_bounds();
+            Err(LineFault::Syntax(Rule::Letter))
+        }
     }
 }
 
@@ -64,18 +55,16 @@ fn read_step<S: Source>(
 /// # Errors
 ///
 /// `Syntax` comes exactly where the line breaks a rule of syntax, and is that of its first word at fault; the window then
-/// stands in that line. `Read` comes only where the source's count rose. `Memory` is want of memory.
+/// stands in that line. `Read` comes only where the source's count rose, and `Memory` is want of memory; the window then stands
+/// in the line that was being read, or, after `Read`, before it where no content line was reached.
 pub fn read_line<S: Source>(
     spare: &mut Spare,
     window: &mut Window,
     src: &mut S,
 ) -> Result<Option<LStep>, LineFault>
-    ensures moves { Moves window.old window.new }
-    ensures progress { IfOk result (λ line. IsTrue (is_some line) → window.old.passed < window.new.passed) }
-    ensures told { WhereTold (ahead window.old (S.left src.old)) (ahead window.new (S.left src.new))
-        (λ bytes rest. LineAnswers lidrup_line window.old bytes window.new rest result) }
-    ensures count { S.faults src.old ≤ S.faults src.new }
-    ensures read { IsErrOf result LineFault.Read → Rose (S.faults src.old) (S.faults src.new) }
+    ensures {
+        let at = reader S.left S.faults in
+        LineRead lidrup_line (at window.old src.old) (at window.new src.new) result }
 {
     match enter_line(window, src) {
         Ok(None) => Ok(None),

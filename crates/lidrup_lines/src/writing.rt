@@ -1,7 +1,7 @@
 // How the lines of a proof by ids and hints are written.
 ghost use Rattle.std.specs.Prelude.{◌∷◌, ◌++◌, [], codes, decimal};
 ghost use Rattle.session_rules.specs.Spelling.{id_step_words, id_words, line_text, literal_words};
-ghost use Rattle.line_writing.specs.Writing.{WritesLine};
+ghost use Rattle.line_writing.specs.Writing.{writer, WritesLine};
 
 #[cfg(test)]
 mod tests;
@@ -18,8 +18,9 @@ use session_rules::{Id, LStep, WriteFault};
 /// `Exhausted` comes exactly where the line is longer than the room, `Write` only where the sink's count of faults rose
 /// or stands at its end. What each leaves is as with `line_writing::write_parts`.
 pub fn write_line<K: Sink>(sink: &mut K, room: &mut u64, step: &LStep) -> Result<(), WriteFault>
-    ensures { WritesLine K.written K.finished K.faults sink.old sink.new room.old room.new
-        (line_text (id_step_words step.now)) result }
+    ensures {
+        let at = writer K.written K.finished K.faults in
+        WritesLine (line_text (id_step_words step.now)) (at sink.old room.old) (at sink.new room.new) result }
 {
     match step {
         LStep::Input { id, lits } => write_parts(
@@ -63,8 +64,10 @@ pub fn write_lemma<'a, K: Sink>(
     lits: &'a [Lit],
     hints: &'a [Id],
 ) -> Result<(), WriteFault>
-    ensures { WritesLine K.written K.finished K.faults sink.old sink.new room.old room.new
-        (line_text (codes "l" ∷ decimal id ∷ (literal_words lits.now ++ id_words hints.now))) result }
+    ensures {
+        let at = writer K.written K.finished K.faults in
+        WritesLine (line_text (codes "l" ∷ decimal id ∷ (literal_words lits.now ++ id_words hints.now)))
+            (at sink.old room.old) (at sink.new room.new) result }
 {
     write_parts(
         sink,
@@ -81,8 +84,10 @@ pub fn write_lemma<'a, K: Sink>(
 /// `Exhausted` comes exactly where the line is longer than the room, `Write` only where the sink's count of faults rose
 /// or stands at its end. What each leaves is as with `line_writing::write_parts`.
 pub fn write_id<K: Sink>(sink: &mut K, room: &mut u64, letter: u8, id: Id) -> Result<(), WriteFault>
-    ensures { WritesLine K.written K.finished K.faults sink.old sink.new room.old room.new
-        (line_text ((letter ∷ []) ∷ id_words (id ∷ []))) result }
+    ensures {
+        let at = writer K.written K.finished K.faults in
+        WritesLine (line_text ((letter ∷ []) ∷ id_words (id ∷ [])))
+            (at sink.old room.old) (at sink.new room.new) result }
 {
     write_parts(sink, room, letter, &[Part::Ids(&[id])])
 }

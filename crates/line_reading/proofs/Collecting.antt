@@ -18,11 +18,13 @@ use Rattle.session_rules.specs.declared.LineFault.{LineFault}
 use Rattle.session_rules.specs.declared.LineFault.TheVariants.{Syntax, Read, Memory}
 use Rattle.session_rules.specs.Lines.{Line}
 use Rattle.session_rules.specs.Reading.{Fault, wrong, missing, Part, literal_list, literals_after, id_list, ids_after, own_id, id_or_fault, status_word, same_word}
-use Rattle.slice_tokens.specs.Place.{Place, WhereTold, ahead, present}
+use Rattle.slice_tokens.specs.Place.{Place, WhereTold, present}
 use Rattle.slice_tokens.specs.Due.{known_words}
 use Rattle.slice_tokens.specs.Calls.{SameLater}
 use Rattle.line_reading.specs.Parts.{PartAnswers, SameLine, ReadsPart, Stays, word_part, word_or_fault}
 use Rattle.line_reading.specs.Kinds.{literal_says, literal_or_rule, id_says, listed_or_rule, own_id_says, own_or_rule, status_says}
+use Rattle.line_reading.specs.Readers.{Reader, to_come, PartRead}
+use Rattle.line_reading.proofs.Joined.{told_then, told_at_start, told_map, rose_later, same_fault}
 use Rattle.line_reading.proofs.LongWords.{literal_long, id_long, id_word_long, other_length}
 
 ok_same : (p q : Option ℕ × List (List ℕ)) → (let a : Part (Option ℕ) = Ok p in a) ≡ Ok q → p ≡ q
@@ -173,18 +175,7 @@ module _ (list : List (List ℕ) → Part (List ℕ)) (says : List ℕ → Resul
   pub collects_memory : (xs : List ℕ) (x : ℕ) (o p q : Place) (t u v : List ℕ) → Collects list xs o t p u → ReadsPart one (Ok (Some x)) p u q v → ReadsPart list (Err Memory) o t q v
   collects_memory xs x o p q t u v h k = record { answer = tt; line = line_trans _ _ _ h.line k.line; behind = later_trans _ _ _ _ _ _ h.behind k.behind }
 
--- ---- Where the bytes may be told
-
-pub told_then : (a b c : Option (List ℕ)) (Q R S : List ℕ → List ℕ → Type 0) → WhereTold a b Q → WhereTold b c R
-    → ((t u v : List ℕ) → Q t u → R u v → S t v) → WhereTold a c S
-told_then None b c Q R S q r step = tt
-told_then (Some t) None c Q R S q r step = absurd q
-told_then (Some t) (Some u) None Q R S q r step = r
-told_then (Some t) (Some u) (Some v) Q R S q r step = step t u v q r
-
-pub told_at_start : (a : Option (List ℕ)) (Q : List ℕ → List ℕ → Type 0) → ((t : List ℕ) → Q t t) → WhereTold a a Q
-told_at_start None Q h = tt
-told_at_start (Some t) Q h = h t
+-- ---- The loop over a list's words
 
 pub Collects-start : (list : List (List ℕ) → Part (List ℕ)) (p : Place) (t : List ℕ) → Collects list [] p t p t
 Collects-start list p t = record { so_far = sym (in_front-nil (list (known_words (present p t)))); line = record { number = refl; cut = refl }; behind = record { later = refl; cut = refl; last = refl } }
@@ -195,13 +186,69 @@ succeeded (Ok x) P e h = h
 succeeded (Err x) P e h = cc e
 
 -- what the loop over a list's words keeps
-pub record Collecting (list : List (List ℕ) → Part (List ℕ)) (xs : List ℕ) (old new : Place) (before after : Option (List ℕ)) (first now : ℕ) : Type 0 where
-  pub passed : old.passed ≤ new.passed
-  pub line : new.line ≡ old.line
-  pub standing : new.standing ≡ old.standing
-  pub ended : old.ended ≡ true → new.ended ≡ true
-  pub told : WhereTold (ahead old before) (ahead new after) (λ t u. Collects list xs old t new u)
-  pub count : first ≤ now
+pub record Collecting (list : List (List ℕ) → Part (List ℕ)) (xs : List ℕ) (old new : Reader) : Type 0 where
+  pub passed : old.place.passed ≤ new.place.passed
+  pub line : new.place.line ≡ old.place.line
+  pub standing : new.place.standing ≡ old.place.standing
+  pub ended : old.place.ended ≡ true → new.place.ended ≡ true
+  pub told : WhereTold (to_come old) (to_come new) (λ t u. Collects list xs old.place t new.place u)
+  pub count : old.faults ≤ new.faults
+
+pub collecting_none : (list : List (List ℕ) → Part (List ℕ)) (o : Reader) → Collecting list [] o o
+collecting_none list o = record {
+  passed = omega arith;
+  line = refl;
+  standing = refl;
+  ended = λ e. e;
+  told = told_at_start (to_come o) (λ t u. Collects list [] o.place t o.place u) (Collects-start list o.place);
+  count = omega arith;
+}
+
+-- a part behind what the loop kept
+pub stays_after : (list : List (List ℕ) → Part (List ℕ)) (xs : List ℕ) (o m n : Reader) → Collecting list xs o m → Stays m.place n.place → Stays o.place n.place
+stays_after list xs o m n h k = record {
+  moves = record {
+    passed = omega (arith, h.passed, k.moves.passed);
+    bounded = k.moves.bounded;
+    counted = k.moves.counted;
+    ended = λ e. k.moves.ended (h.ended e);
+  };
+  line = k.line ∙ h.line;
+  standing = k.standing ∙ h.standing;
+}
+
+module _ (list : List (List ℕ) → Part (List ℕ)) (says : List ℕ → Result (Option ℕ) Rule) (kind : IsList list says) (xs : List ℕ) (o m n : Reader) (h : Collecting list xs o m) where
+  abbrev one_word : List (List ℕ) → Part (Option ℕ)
+  one_word = word_part says rules.Unclosed rules.Number
+
+  -- one word more
+  pub collecting_more : (x : ℕ) → PartRead one_word m n (Ok (Some x)) → Collecting list (xs ++ x ∷ []) o n
+  collecting_more x k = record {
+    passed = omega (arith, h.passed, k.stays.moves.passed);
+    line = k.stays.line ∙ h.line;
+    standing = k.stays.standing ∙ h.standing;
+    ended = λ e. k.stays.moves.ended (h.ended e);
+    told = told_then _ _ _ _ _ _ h.told k.told (λ t u v i j. collects_more list says kind xs x o.place m.place n.place t u v i j);
+    count = omega (arith, h.count, k.count);
+  }
+
+  -- the 0 at the list's end
+  pub collecting_last : PartRead one_word m n (Ok None) → PartRead list o n (Ok xs)
+  collecting_last k = record {
+    stays = stays_after list xs o m n h k.stays;
+    told = told_then _ _ _ _ _ _ h.told k.told (λ t u v i j. collects_last list says kind xs o.place m.place n.place t u v i j);
+    count = omega (arith, h.count, k.count);
+    read = λ e. cc e;
+  }
+
+  -- a word at fault
+  pub collecting_fault : (e : LineFault) → PartRead one_word m n (Err e) → PartRead list o n (Err e)
+  collecting_fault e k = record {
+    stays = stays_after list xs o m n h k.stays;
+    told = told_then _ _ _ _ _ _ h.told k.told (λ t u v i j. collects_fault list says kind xs e o.place m.place n.place t u v i j);
+    count = omega (arith, h.count, k.count);
+    read = λ f. rose_later _ _ _ h.count (k.read (same_fault e Read f));
+  }
 
 -- ---- Parts of one word
 
@@ -235,33 +282,18 @@ status_word-word_part (w ∷ ws) = elim (cases_Bool (nat_lt 32 (length w))) [
     by_tests false false false = refl
 
 -- two parts that say the same are read alike
-pub reads_same : {A : Type 0} (f g : List (List ℕ) → Part A) → ((us : List (List ℕ)) → f us ≡ g us) → (r : Result A LineFault) (a b : Option (List ℕ)) (p q : Place)
-    → WhereTold a b (λ t u. ReadsPart f r p t q u) → WhereTold a b (λ t u. ReadsPart g r p t q u)
-reads_same f g same r None b p q h = tt
-reads_same f g same r (Some t) None p q h = h
-reads_same f g same r (Some t) (Some u) p q h = record {
+reads_same : {A : Type 0} (f g : List (List ℕ) → Part A) → ((us : List (List ℕ)) → f us ≡ g us) → (r : Result A LineFault) (p q : Place) (t u : List ℕ) → ReadsPart f r p t q u → ReadsPart g r p t q u
+reads_same f g same r p q t u h = record {
   answer = subst (λ o. PartAnswers o (present q u) r) (same (known_words (present p t))) h.answer;
   line = h.line;
   behind = h.behind;
 }
 
-pub own_id_read : (r : Result ℕ LineFault) (a b : Option (List ℕ)) (p q : Place) → WhereTold a b (λ t u. ReadsPart (word_part own_id_says rules.Unclosed rules.Number) r p t q u)
-    → WhereTold a b (λ t u. ReadsPart own_id r p t q u)
-own_id_read r a b p q h = reads_same (word_part own_id_says rules.Unclosed rules.Number) own_id own_id-word_part r a b p q h
+part_same : {A : Type 0} (f g : List (List ℕ) → Part A) → ((us : List (List ℕ)) → f us ≡ g us) → (r : Result A LineFault) (o n : Reader) → PartRead f o n r → PartRead g o n r
+part_same f g same r o n h = record { stays = h.stays; told = told_map _ _ _ _ h.told (λ t u k. reads_same f g same r o.place n.place t u k); count = h.count; read = h.read }
 
-pub status_read : (r : Result StatusWord LineFault) (a b : Option (List ℕ)) (p q : Place) → WhereTold a b (λ t u. ReadsPart (word_part status_says rules.Word rules.Word) r p t q u)
-    → WhereTold a b (λ t u. ReadsPart status_word r p t q u)
-status_read r a b p q h = reads_same (word_part status_says rules.Word rules.Word) status_word status_word-word_part r a b p q h
+pub own_id_read : (r : Result ℕ LineFault) (o n : Reader) → PartRead (word_part own_id_says rules.Unclosed rules.Number) o n r → PartRead own_id o n r
+own_id_read r o n h = part_same (word_part own_id_says rules.Unclosed rules.Number) own_id own_id-word_part r o n h
 
--- a part behind what the loop kept
-pub stays_after : (list : List (List ℕ) → Part (List ℕ)) (xs : List ℕ) (o p q : Place) (a b : Option (List ℕ)) (m n : ℕ) → Collecting list xs o p a b m n → Stays p q → Stays o q
-stays_after list xs o p q a b m n h k = record {
-  moves = record {
-    passed = omega arith;
-    bounded = k.moves.bounded;
-    counted = k.moves.counted;
-    ended = λ e. k.moves.ended (h.ended e);
-  };
-  line = k.line ∙ h.line;
-  standing = k.standing ∙ h.standing;
-}
+pub status_read : (r : Result StatusWord LineFault) (o n : Reader) → PartRead (word_part status_says rules.Word rules.Word) o n r → PartRead status_word o n r
+status_read r o n h = part_same (word_part status_says rules.Word rules.Word) status_word status_word-word_part r o n h

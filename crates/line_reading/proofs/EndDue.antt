@@ -9,7 +9,7 @@ use Rattle.slice_tokens.specs.Place.{Place, present}
 use Rattle.slice_tokens.specs.Due.{due, known_words}
 use Rattle.slice_tokens.specs.Calls.{Answers, LeavesLines}
 use Rattle.line_reading.specs.Parts.{line_fault_of}
-use Rattle.line_reading.specs.Whole.{of_line, Tells, ReadsRest}
+use Rattle.line_reading.specs.Whole.{of_line, Tells, ReadsBody}
 use Rattle.line_reading.specs.Expected.{expected_end}
 use Rattle.line_reading.proofs.Opening.{long_first, cut_first}
 
@@ -27,5 +27,5 @@ module _ (rule : Rule) where
 
   -- the window answered a fault in place of the line's end
   pub end_fault : (p q : Place) (t u : List ℕ) (fault : TokenFault) → Answers (due (present p t)) (Err fault) → LeavesLines (Err fault) p t q u
-      → ReadsRest (expected_end rule) (Err (line_fault_of rule fault)) p t q u
+      → ReadsBody (expected_end rule) (Err (line_fault_of rule fault)) p t q u
   end_fault p q t u fault d left = record { answer = end_said (present p t) fault d; behind = left.behind }

@@ -1,5 +1,5 @@
 -- The letter of the line that comes next.
-use Rattle.std.proofs.Common.{◌≡◌, ℕ, ◌⊎◌, Bool, true, nat_lt, if◌then◌else◌, List, [], ◌∷◌, length, Some, Ok, Err, refl, sym, ap, ◌∙◌, subst, inl, inr, ltb-true}
+use Rattle.std.proofs.Common.{◌≡◌, ℕ, ◌<◌, ◌≤◌, ◌⊎◌, Bool, true, nat_lt, if◌then◌else◌, List, [], ◌∷◌, length, Some, Ok, Err, refl, sym, ap, ◌∙◌, subst, inl, inr, ltb-true, arith}
 use Rattle.std.proofs.lemmas.Bool.{cases_Bool}
 use Rattle.std.specs.declared.option.Option.{Option}
 use Rattle.std.specs.declared.result.Result.{Result}
@@ -13,12 +13,13 @@ use Rattle.session_rules.specs.Lines.{has_content, judged_words, without_cut_wor
 use Rattle.session_rules.specs.Reading.{Fault, wrong, missing, letter_of}
 use Rattle.slice_tokens.specs.Place.{Place, WhereTold, present, later}
 use Rattle.slice_tokens.specs.Due.{known_words}
-use Rattle.slice_tokens.specs.Calls.{InLine}
+use Rattle.slice_tokens.specs.Calls.{Moves, SameLater, InLine}
 use Rattle.line_reading.specs.Parts.{PartAnswers, fault_rule, ReadsPart, word_part, word_or_fault}
 use Rattle.line_reading.specs.Kinds.{letter_says, letter_or_rule}
 use Rattle.line_reading.proofs.LongWords.{long_letter}
-use Rattle.line_reading.proofs.Collecting.{told_then}
-use Rattle.line_reading.specs.Whole.{Entered, Unentered, Enters}
+use Rattle.line_reading.specs.Readers.{Reader, to_come, PartRead, LetterRead}
+use Rattle.line_reading.proofs.Joined.{told_then, moves_trans, rose_later, same_fault}
+use Rattle.line_reading.specs.Whole.{StandsInLine, Entered, Unentered, Enters}
 
 -- a letter as the first word
 abbrev letter_part : List (List ℕ) → Result (Letter × List (List ℕ)) Fault
@@ -113,22 +114,37 @@ module _ (o p q : Place) (t u v : List ℕ) (stays : q.line ≡ p.line) (i : InL
       judged_is : judged_words (present p u) ≡ known_words (present p u)
       judged_is = ap (λ c. if c then known_words (present p u) else []) i.content
 
+  -- the window is still in the line that came next
+  stands_in : SameLater p u q v → StandsInLine o t q v
+  stands_in k = record { line = present p u; lines = i.lines ∙ ap (λ ls. present p u ∷ ls) (sym k.later); number = i.number ∙ sym stays; cut = k.cut ∙ i.cut; last = k.last ∙ i.last }
+
   by_fault : (e : LineFault) (a : Result (Letter × List (List ℕ)) Fault) → letter_part (known_words (present p u)) ≡ a → (present q v).cut ≡ (present p u).cut
-      → PartAnswers a (present q v) (Err e) → Enters o t q v (Err e)
-  by_fault (Syntax r) (Ok m) h c k = absurd k
-  by_fault (Syntax r) (Err f) h c k = inl (subst (λ z. Unentered z o t q) (sym (k ∙ ap (λ b. fault_rule b f) c)) (unentered_by f h))
-  by_fault Read a h c k = tt
-  by_fault Memory a h c k = tt
+      → SameLater p u q v → PartAnswers a (present q v) (Err e) → Enters o t q v (Err e)
+  by_fault (Syntax r) (Ok m) h c b k = absurd k
+  by_fault (Syntax r) (Err f) h c b k = inl (subst (λ z. Unentered z o t q) (sym (k ∙ ap (λ b. fault_rule b f) c)) (unentered_by f h))
+  by_fault Read a h c b k = inl (stands_in b)
+  by_fault Memory a h c b k = stands_in b
 
   pub unentered : (e : LineFault) → ReadsPart letter_part (Err e) p u q v → Enters o t q v (Err e)
-  unentered e k = by_fault e (letter_part (known_words (present p u))) refl k.line.cut k.answer
+  unentered e k = by_fault e (letter_part (known_words (present p u))) refl k.line.cut k.behind k.answer
 
--- ---- Where the bytes may be told
+-- ---- Over a source
 
-pub told_entered : (l : Letter) (a b c : Option (List ℕ)) (o p q : Place) → q.line ≡ p.line → WhereTold a b (λ t u. InLine o t p u) → WhereTold b c (λ u v. ReadsPart letter_part (Ok l) p u q v)
-    → WhereTold a c (λ t v. Enters o t q v (Ok (Some l)))
-told_entered l a b c o p q stays h k = told_then a b c _ _ _ h k (λ t u v i j. entered l o p q t u v stays i j)
+module _ (o m n : Reader) (moves : Moves o.place m.place) (count : o.faults ≤ m.faults) (entered_line : WhereTold (to_come o) (to_come m) (λ t u. InLine o.place t m.place u)) where
+  pub letter_read : (l : Letter) → m.place.passed < n.place.passed → PartRead letter_part m n (Ok l) → LetterRead o n (Ok (Some l))
+  letter_read l progress k = record {
+    moves = moves_trans _ _ _ moves k.stays.moves;
+    progress = λ _. omega (arith, moves.passed, progress);
+    told = told_then _ _ _ _ _ _ entered_line k.told (λ t u v i j. entered l o.place m.place n.place t u v k.stays.line i j);
+    count = omega (arith, count, k.count);
+    read = λ e. cc e;
+  }
 
-pub told_unentered : (e : LineFault) (a b c : Option (List ℕ)) (o p q : Place) → q.line ≡ p.line → WhereTold a b (λ t u. InLine o t p u) → WhereTold b c (λ u v. ReadsPart letter_part (Err e) p u q v)
-    → WhereTold a c (λ t v. Enters o t q v (Err e))
-told_unentered e a b c o p q stays h k = told_then a b c _ _ _ h k (λ t u v i j. unentered o p q t u v stays i e j)
+  pub letter_fails : (e : LineFault) → PartRead letter_part m n (Err e) → LetterRead o n (Err e)
+  letter_fails e k = record {
+    moves = moves_trans _ _ _ moves k.stays.moves;
+    progress = tt;
+    told = told_then _ _ _ _ _ _ entered_line k.told (λ t u v i j. unentered o.place m.place n.place t u v k.stays.line i e j);
+    count = omega (arith, count, k.count);
+    read = λ f. rose_later _ _ _ count (k.read (same_fault e Read f));
+  }

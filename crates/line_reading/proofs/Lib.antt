@@ -1,7 +1,8 @@
+pub mod Joined
 pub mod Opening
 pub mod LongWords
 pub mod Collecting
-pub mod Resting
+pub mod WholeBodies
 pub mod FirstLetter
 pub mod ByLetter
 pub mod AtBounds

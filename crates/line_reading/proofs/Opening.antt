@@ -1,15 +1,13 @@
 -- What is due at a line, by the words that are known.
-use Rattle.std.proofs.Common.{◌≡◌, ℕ, Bool, true, false, nat_lt, List, [], ◌∷◌, length, Some, None, Err, refl, sym, ap, subst, inl, inr}
+use Rattle.std.proofs.Common.{◌≡◌, ℕ, Bool, true, false, nat_lt, List, [], ◌∷◌, length, Err, refl, sym, ap, subst, inl, inr}
 use Rattle.std.proofs.lemmas.Bool.{cases_Bool}
-use Rattle.std.specs.declared.option.Option.{Option}
 use Rattle.std.specs.declared.result.Result.{Result}
-use Rattle.std.specs.Prelude.{IfSome}
 use Rattle.session_rules.specs.declared.Rule.{Rule}
 use Rattle.session_rules.specs.declared.Rule.TheVariants as rules
 use Rattle.session_rules.specs.Lines.{Line}
 use Rattle.slice_tokens.specs.declared.token.TokenFault.{TokenFault}
 use Rattle.slice_tokens.specs.declared.token.TokenFault.TheVariants as tokens
-use Rattle.slice_tokens.specs.Place.{Place, WhereTold, present}
+use Rattle.slice_tokens.specs.Place.{Place, present}
 use Rattle.slice_tokens.specs.Due.{due_word, due_long, due_cut, due_of, due, known_words}
 use Rattle.slice_tokens.specs.Calls.{Answers, LeavesLines}
 use Rattle.line_reading.specs.Parts.{PartAnswers, ReadsPart, end_fault, EndAnswers, EndsLine, line_fault_of, word_part}
@@ -31,14 +29,6 @@ cut_first cut (v ∷ more) e = elim (cases_Bool (nat_lt 32 (length v))) [
   | inl q ↦ let f : due_long ≡ due_cut = rw q at e in cc f
   | inr q ↦ let f : due_word v ≡ due_cut = rw q at e in cc f
 ]
-
--- ---- Where the bytes may be told
-
-pub told_from : (a b : Option (List ℕ)) (P : List ℕ → Type 0) (Q R : List ℕ → List ℕ → Type 0)
-    → IfSome a P → WhereTold a b Q → ((t u : List ℕ) → P t → Q t u → R t u) → WhereTold a b R
-told_from None b P Q R p q step = tt
-told_from (Some t) None P Q R p q step = q
-told_from (Some t) (Some u) P Q R p q step = step t u p q
 
 module _ {A : Type 0} (says : List ℕ → Result A Rule) (none long : Rule) where
   fault_answers : (line : Line) (fault : TokenFault) → Answers (due line) (Err fault)

@@ -25,7 +25,8 @@ use Rattle.line_reading.specs.Parts.{ReadsPart, word_part, word_or_fault}
 use Rattle.line_reading.specs.Kinds.{literal_says, literal_or_rule}
 use Rattle.line_reading.specs.Runs.{begins_with_space, IsSpaced, IsRun, IsWholeRun}
 use Rattle.line_reading.proofs.Fronts.{is_front, literal_front, literal_zero}
-use Rattle.line_reading.proofs.Collecting.{literal_list_is, Collects, Collects-start, collects_more, collects_last, told_then, told_at_start}
+use Rattle.line_reading.proofs.Joined.{told_then, told_at_start}
+use Rattle.line_reading.proofs.Collecting.{literal_list_is, Collects, Collects-start, collects_more, collects_last}
 
 pub on_true : (b : Bool) (P Q : Type 0) → (P → Q) → OnTrue b P → OnTrue b Q
 on_true true P Q f h = f h

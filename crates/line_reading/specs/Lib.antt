@@ -3,3 +3,4 @@ pub mod Kinds
 pub mod Whole
 pub mod Expected
 pub mod Runs
+pub mod Readers

@@ -1,4 +1,4 @@
--- What the readers of whole lines answer, and of what stands in a line behind its letter.
+-- What the readers of whole lines answer, and those of a line's body, which is what stands in it behind its letter.
 use Rattle.std.specs.Prelude.{◌≡◌, ℕ, ◌⊎◌, Bool, true, false, if◌then◌else◌, List, [], ◌∷◌, Some, None, Ok, Err, ⊤}
 use Rattle.std.specs.declared.option.Option.{Option}
 use Rattle.std.specs.declared.result.Result.{Result}
@@ -13,7 +13,7 @@ use Rattle.session_rules.specs.Lines.{Line, judged_words}
 use Rattle.session_rules.specs.Reading.{Fault, letter_of, ◌>>=◌, of_whole_line, of_cut_line, value_of, whole, own_id, literal_list, id_list, of_literals, of_ids, of_status}
 use Rattle.slice_tokens.specs.Place.{Place, present, later, is_cut, last_line}
 use Rattle.slice_tokens.specs.Due.{known_words}
-use Rattle.slice_tokens.specs.Calls.{SameLater, AtEnd}
+use Rattle.slice_tokens.specs.Calls.{SameLater, SameContent, AtEnd}
 
 -- what words say in a line that is cut, or isn't: a value, or a rule
 abbrev pub of_line : {A : Type 0} → Bool → Result A Fault → Result A Rule
@@ -26,30 +26,30 @@ Tells said (Err (Syntax r)) = said ≡ Err r
 Tells said (Err Read) = ⊤
 Tells said (Err Memory) = ⊤
 
--- the rest of the present line was read to its end
-pub record ReadsRest {A : Type 0} (says : List (List ℕ) → Result A Fault) (result : Result A LineFault) (old : Place) (bytes : List ℕ) (new : Place) (rest : List ℕ) : Type 0 where
+-- the body of the present line was read: all its words from here to the line's end
+pub record ReadsBody {A : Type 0} (says : List (List ℕ) → Result A Fault) (result : Result A LineFault) (old : Place) (bytes : List ℕ) (new : Place) (rest : List ℕ) : Type 0 where
   pub answer : Tells (of_line (present old bytes).cut (says (known_words (present old bytes)))) result
   pub behind : SameLater old bytes new rest
 
 -- ---- What may stand behind a letter
 
-abbrev pub literals_rest : List (List ℕ) → Result (List ℕ) Fault
-literals_rest ws = of_literals (λ ls. ls) ws
+abbrev pub literals_body : List (List ℕ) → Result (List ℕ) Fault
+literals_body ws = of_literals (λ ls. ls) ws
 
-abbrev pub ids_rest : List (List ℕ) → Result (List ℕ) Fault
-ids_rest ws = of_ids (λ is. is) ws
+abbrev pub ids_body : List (List ℕ) → Result (List ℕ) Fault
+ids_body ws = of_ids (λ is. is) ws
 
-abbrev pub status_rest : List (List ℕ) → Result StatusWord Fault
-status_rest ws = of_status (λ s. s) ws
+abbrev pub status_body : List (List ℕ) → Result StatusWord Fault
+status_body ws = of_status (λ s. s) ws
 
-abbrev pub id_literals_rest : List (List ℕ) → Result (ℕ × List ℕ) Fault
-id_literals_rest ws = own_id ws >>= λ i. literal_list i.1 >>= λ ls. whole (i.0, ls.0) ls.1
+abbrev pub id_literals_body : List (List ℕ) → Result (ℕ × List ℕ) Fault
+id_literals_body ws = own_id ws >>= λ i. literal_list i.1 >>= λ ls. whole (i.0, ls.0) ls.1
 
-abbrev pub id_literals_ids_rest : List (List ℕ) → Result (ℕ × List ℕ × List ℕ) Fault
-id_literals_ids_rest ws = own_id ws >>= λ i. literal_list i.1 >>= λ ls. id_list ls.1 >>= λ hs. whole (i.0, ls.0, hs.0) hs.1
+abbrev pub id_literals_ids_body : List (List ℕ) → Result (ℕ × List ℕ × List ℕ) Fault
+id_literals_ids_body ws = own_id ws >>= λ i. literal_list i.1 >>= λ ls. id_list ls.1 >>= λ hs. whole (i.0, ls.0, hs.0) hs.1
 
-abbrev pub literals_ids_rest : List (List ℕ) → Result (List ℕ × List ℕ) Fault
-literals_ids_rest ws = literal_list ws >>= λ ls. id_list ls.1 >>= λ hs. whole (ls.0, hs.0) hs.1
+abbrev pub literals_ids_body : List (List ℕ) → Result (List ℕ × List ℕ) Fault
+literals_ids_body ws = literal_list ws >>= λ ls. id_list ls.1 >>= λ hs. whole (ls.0, hs.0) hs.1
 
 -- ---- Whole lines
 
@@ -76,13 +76,25 @@ pub record BehindCut (r : Rule) (old : Place) (bytes : List ℕ) : Type 0 where
   pub cut : is_cut old bytes ≡ true
   pub rule : r ≡ rules.Length
 
+-- the window stands in the line that came next, and those behind it are still to come
+pub record StandsInLine (old : Place) (bytes : List ℕ) (new : Place) (rest : List ℕ) : Type 0 where
+  pub line : Line
+  pub lines : later old bytes ≡ line ∷ later new rest
+  pub number : line.number ≡ new.line
+  pub cut : is_cut new rest ≡ is_cut old bytes
+  pub last : last_line new rest ≡ last_line old bytes
+
+-- where a failed read leaves the window: in the line that came next, or before it
+abbrev pub StopsInOrBefore : Place → List ℕ → Place → List ℕ → Type 0
+StopsInOrBefore old bytes new rest = StandsInLine old bytes new rest ⊎ SameContent old bytes new rest
+
 -- what reading the next line answers
 abbrev pub LineAnswers : {A : Type 0} → (List (List ℕ) → Result A Fault) → Place → List ℕ → Place → List ℕ → Result (Option A) LineFault → Type 0
 LineAnswers read old bytes new rest (Ok None) = AtEnd old bytes new rest
 LineAnswers read old bytes new rest (Ok (Some x)) = Says read x old bytes new rest
 LineAnswers read old bytes new rest (Err (Syntax r)) = Breaks read r old bytes new ⊎ BehindCut r old bytes
-LineAnswers read old bytes new rest (Err Read) = ⊤
-LineAnswers read old bytes new rest (Err Memory) = ⊤
+LineAnswers read old bytes new rest (Err Read) = StopsInOrBefore old bytes new rest
+LineAnswers read old bytes new rest (Err Memory) = StandsInLine old bytes new rest
 
 -- ---- The letter of a line
 
@@ -116,5 +128,5 @@ abbrev pub Enters : Place → List ℕ → Place → List ℕ → Result (Option
 Enters old bytes new rest (Ok None) = AtEnd old bytes new rest
 Enters old bytes new rest (Ok (Some letter)) = Entered letter old bytes new rest
 Enters old bytes new rest (Err (Syntax r)) = Unentered r old bytes new ⊎ BehindCut r old bytes
-Enters old bytes new rest (Err Read) = ⊤
-Enters old bytes new rest (Err Memory) = ⊤
+Enters old bytes new rest (Err Read) = StopsInOrBefore old bytes new rest
+Enters old bytes new rest (Err Memory) = StandsInLine old bytes new rest

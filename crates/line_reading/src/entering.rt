@@ -1,11 +1,7 @@
 // Going to the next line, and reading it by its letter.
-ghost use Rattle.std.specs.Prelude.{◌≡◌, ◌<◌, ◌≤◌, IfOk, IsErrOf, IsTrue};
-ghost use Rattle.std.specs.Option.{is_some};
-ghost use Rattle.outside.specs.Faults.{Rose};
+ghost use Rattle.std.specs.Prelude.{IsErrOf};
 ghost use Rattle.session_rules.specs.declared.LineFault.{LineFault};
-ghost use Rattle.slice_tokens.specs.Place.{ahead, WhereTold};
-ghost use Rattle.slice_tokens.specs.Calls.{Moves};
-ghost use Rattle.line_reading.specs.Whole.{Enters};
+ghost use Rattle.line_reading.specs.Readers.{reader, LetterRead};
 
 use crate::kinds::LetterWords;
 use crate::words::first_word;
@@ -16,12 +12,9 @@ use slice_tokens::{TokenFault, Window};
 /// Goes to the next content line and reads its letter; none at the end of the stream.
 #[inline]
 pub fn enter_line<S: Source>(window: &mut Window, src: &mut S) -> Result<Option<Letter>, LineFault>
-    ensures moves { Moves window.old window.new }
-    ensures progress { IfOk result (λ letter. IsTrue (is_some letter) → window.old.passed < window.new.passed) }
-    ensures told { WhereTold (ahead window.old (S.left src.old)) (ahead window.new (S.left src.new))
-        (λ bytes rest. Enters window.old bytes window.new rest result) }
-    ensures count { S.faults src.old ≤ S.faults src.new }
-    ensures read { IsErrOf result LineFault.Read → Rose (S.faults src.old) (S.faults src.new) }
+    ensures letter {
+        let at = reader S.left S.faults in
+        LetterRead (at window.old src.old) (at window.new src.new) result }
     ensures memory { IsErrOf result LineFault.Memory → ⊥ }
 {
     match window.next_line(src) {

@@ -1,10 +1,7 @@
 // Words that are given, and the line's end, each with the rule that anything else breaks.
-ghost use Rattle.std.specs.Prelude.{◌≡◌, ◌≤◌, IsErrOf};
-ghost use Rattle.outside.specs.Faults.{Rose};
+ghost use Rattle.std.specs.Prelude.{◌≡◌, IsErrOf};
 ghost use Rattle.session_rules.specs.declared.LineFault.{LineFault};
-ghost use Rattle.slice_tokens.specs.Place.{ahead, WhereTold};
-ghost use Rattle.line_reading.specs.Parts.{ReadsPart, Stays};
-ghost use Rattle.line_reading.specs.Whole.{ReadsRest};
+ghost use Rattle.line_reading.specs.Readers.{reader, PartRead, BodyRead};
 ghost use Rattle.line_reading.specs.Expected.{expected_says, expected_word, expected_end};
 
 use crate::kinds::same_word;
@@ -32,11 +29,10 @@ pub fn expect_word<S: Source>(
     word: &[u8],
     rule: Rule,
 ) -> Result<(), LineFault>
-    ensures stays { Stays window.old window.new }
-    ensures told { WhereTold (ahead window.old (S.left src.old)) (ahead window.new (S.left src.new))
-        (λ bytes rest. ReadsPart (expected_word word.now rule) result window.old bytes window.new rest) }
-    ensures count { S.faults src.old ≤ S.faults src.new }
-    ensures read { IsErrOf result LineFault.Read → Rose (S.faults src.old) (S.faults src.new) }
+    ensures part {
+        let at = reader S.left S.faults in
+        PartRead (expected_word word.now rule)
+            (at window.old src.old) (at window.new src.new) result }
     ensures memory { IsErrOf result LineFault.Memory → ⊥ }
 {
     match window.next(src) {
@@ -51,11 +47,9 @@ pub fn expect_word<S: Source>(
 
 /// The line's end; any further word, however long, breaks the rule.
 pub fn expect_end<S: Source>(window: &mut Window, src: &mut S, rule: Rule) -> Result<(), LineFault>
-    ensures stays { Stays window.old window.new }
-    ensures told { WhereTold (ahead window.old (S.left src.old)) (ahead window.new (S.left src.new))
-        (λ bytes rest. ReadsRest (expected_end rule) result window.old bytes window.new rest) }
-    ensures count { S.faults src.old ≤ S.faults src.new }
-    ensures read { IsErrOf result LineFault.Read → Rose (S.faults src.old) (S.faults src.new) }
+    ensures body {
+        let at = reader S.left S.faults in
+        BodyRead (expected_end rule) (at window.old src.old) (at window.new src.new) result }
     ensures memory { IsErrOf result LineFault.Memory → ⊥ }
 {
     match window.next(src) {

@@ -1,10 +1,8 @@
 // The parts of lines: the letter, lists of literals and of ids, the line's own id, and the status.
-ghost use Rattle.std.specs.Prelude.{◌≤◌, IsErrOf};
-ghost use Rattle.outside.specs.Faults.{Rose};
+ghost use Rattle.std.specs.Prelude.{IsErrOf};
 ghost use Rattle.session_rules.specs.declared.LineFault.{LineFault};
 ghost use Rattle.session_rules.specs.Reading.{literal_list, id_list, own_id, status_word};
-ghost use Rattle.slice_tokens.specs.Place.{ahead, WhereTold};
-ghost use Rattle.line_reading.specs.Parts.{ReadsPart, Stays};
+ghost use Rattle.line_reading.specs.Readers.{reader, PartRead};
 
 use crate::kinds::{IdWords, LiteralWords, OwnIdWords, StatusWords};
 use crate::runs::push_run;
@@ -22,11 +20,9 @@ pub fn read_literals<S: Source>(
     window: &mut Window,
     src: &mut S,
 ) -> Result<Lits, LineFault>
-    ensures stays { Stays window.old window.new }
-    ensures told { WhereTold (ahead window.old (S.left src.old)) (ahead window.new (S.left src.new))
-        (λ bytes rest. ReadsPart literal_list result window.old bytes window.new rest) }
-    ensures count { S.faults src.old ≤ S.faults src.new }
-    ensures read { IsErrOf result LineFault.Read → Rose (S.faults src.old) (S.faults src.new) }
+    ensures part {
+        let at = reader S.left S.faults in
+        PartRead literal_list (at window.old src.old) (at window.new src.new) result }
 {
     let mut lits = empty_literals(spare);
     match push_run(window.coming(), &mut lits) {
@@ -56,11 +52,9 @@ pub fn read_ids<S: Source>(
     window: &mut Window,
     src: &mut S,
 ) -> Result<Ids, LineFault>
-    ensures stays { Stays window.old window.new }
-    ensures told { WhereTold (ahead window.old (S.left src.old)) (ahead window.new (S.left src.new))
-        (λ bytes rest. ReadsPart id_list result window.old bytes window.new rest) }
-    ensures count { S.faults src.old ≤ S.faults src.new }
-    ensures read { IsErrOf result LineFault.Read → Rose (S.faults src.old) (S.faults src.new) }
+    ensures part {
+        let at = reader S.left S.faults in
+        PartRead id_list (at window.old src.old) (at window.new src.new) result }
 {
     let mut ids = empty_ids(spare);
     'ids: loop {
@@ -79,22 +73,19 @@ pub fn read_ids<S: Source>(
 /// The line's own id, which isn't 0.
 #[inline(always)]
 pub fn read_id<S: Source>(window: &mut Window, src: &mut S) -> Result<Id, LineFault>
-    ensures stays { Stays window.old window.new }
-    ensures told { WhereTold (ahead window.old (S.left src.old)) (ahead window.new (S.left src.new))
-        (λ bytes rest. ReadsPart own_id result window.old bytes window.new rest) }
-    ensures count { S.faults src.old ≤ S.faults src.new }
-    ensures read { IsErrOf result LineFault.Read → Rose (S.faults src.old) (S.faults src.new) }
+    ensures part {
+        let at = reader S.left S.faults in
+        PartRead own_id (at window.old src.old) (at window.new src.new) result }
+    ensures memory { IsErrOf result LineFault.Memory → ⊥ }
 {
     next_word::<S, OwnIdWords>(window, src)
 }
 
 /// A status.
 pub fn read_status<S: Source>(window: &mut Window, src: &mut S) -> Result<StatusWord, LineFault>
-    ensures stays { Stays window.old window.new }
-    ensures told { WhereTold (ahead window.old (S.left src.old)) (ahead window.new (S.left src.new))
-        (λ bytes rest. ReadsPart status_word result window.old bytes window.new rest) }
-    ensures count { S.faults src.old ≤ S.faults src.new }
-    ensures read { IsErrOf result LineFault.Read → Rose (S.faults src.old) (S.faults src.new) }
+    ensures part {
+        let at = reader S.left S.faults in
+        PartRead status_word (at window.old src.old) (at window.new src.new) result }
     ensures memory { IsErrOf result LineFault.Memory → ⊥ }
 {
     next_word::<S, StatusWords>(window, src)

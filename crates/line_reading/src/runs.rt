@@ -54,14 +54,14 @@ pub(crate) fn push_run(bytes: &[u8], lits: &mut Lits) -> Result<(usize, bool), A
 {
     let mut at = 0;
     'words: loop {
-        let rest = &bytes[at..];
-        match spaced_literal(rest) {
+        let behind = &bytes[at..];
+        match spaced_literal(behind) {
             Some((count, l)) => {
                 lits.push(l)?;
                 at += count + 1;
             }
             None => {
-                if spaced_zero(rest) {
+                if spaced_zero(behind) {
                     return Ok((at + 2, true));
                 }
                 return Ok((at, false));

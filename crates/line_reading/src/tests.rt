@@ -1,5 +1,5 @@
 // Lines that are read by their letter, and one whose word is no number.
-use crate::{Spare, enter_line, literals_ids_rest, literals_rest, status_rest};
+use crate::{Spare, enter_line, literals_ids_body, literals_body, status_body};
 use outside::MemorySource;
 use session_rules::{Letter, LineFault, Rule, StatusWord};
 use slice_tokens::Window;
@@ -26,7 +26,7 @@ fn lines_are_read_by_their_letter(rt: HostRuntime) -> Result<(), Fail> {
         enter_line(&mut window, &mut source).ok().flatten(),
         Some(Letter::Input)
     );
-    let input = literals_rest(&mut spare, &mut window, &mut source)
+    let input = literals_body(&mut spare, &mut window, &mut source)
         .ok()
         .ok_or("input")?;
     assert_eq!(rt; input.len(), 2);
@@ -36,14 +36,14 @@ fn lines_are_read_by_their_letter(rt: HostRuntime) -> Result<(), Fail> {
         Some(Letter::Status)
     );
     assert_eq!(rt;
-        status_rest(&mut window, &mut source).ok(),
+        status_body(&mut window, &mut source).ok(),
         Some(StatusWord::Unknown)
     );
     assert_eq!(rt;
         enter_line(&mut window, &mut source).ok().flatten(),
         Some(Letter::Core)
     );
-    let (core, hints) = literals_ids_rest(&mut spare, &mut window, &mut source)
+    let (core, hints) = literals_ids_body(&mut spare, &mut window, &mut source)
         .ok()
         .ok_or("core")?;
     assert_eq!(rt; core.len(), 1);
@@ -52,7 +52,7 @@ fn lines_are_read_by_their_letter(rt: HostRuntime) -> Result<(), Fail> {
         enter_line(&mut window, &mut source).ok().flatten(),
         Some(Letter::Lemma)
     );
-    let fault = literals_rest(&mut spare, &mut window, &mut source).err();
+    let fault = literals_body(&mut spare, &mut window, &mut source).err();
     assert_eq!(rt; fault, Some(LineFault::Syntax(Rule::Number)));
     assert_eq!(rt; window.line(), 5);
     Ok(())

@@ -1,12 +1,11 @@
 // The kinds of words that stand in lines, and the reading of the next word as one of a kind.
-ghost use Rattle.std.specs.Prelude.{◌≡◌, ℕ, ◌<◌, ◌≤◌, List, take, Ok, IfOk, IfSome, IsErrOf};
+ghost use Rattle.std.specs.Prelude.{◌≡◌, ℕ, ◌<◌, List, take, Ok, IfOk, IfSome, IsErrOf};
 ghost use Rattle.std.specs.declared.result.Result.{Result};
-ghost use Rattle.outside.specs.Faults.{Rose};
 ghost use Rattle.session_rules.specs.declared.Rule.{Rule};
 ghost use Rattle.session_rules.specs.declared.LineFault.{LineFault};
-ghost use Rattle.slice_tokens.specs.Place.{ahead, WhereTold};
 ghost use Rattle.slice_tokens.specs.Front.{IsWordFront};
-ghost use Rattle.line_reading.specs.Parts.{ReadsPart, EndsLine, Stays, word_part, line_fault_of};
+ghost use Rattle.line_reading.specs.Parts.{word_part, line_fault_of};
+ghost use Rattle.line_reading.specs.Readers.{reader, PartRead, EndRead};
 
 use outside::Source;
 use session_rules::{LineFault, Rule};
@@ -56,12 +55,11 @@ pub fn next_word<S: Source, K: WordKind>(
     window: &mut Window,
     src: &mut S,
 ) -> Result<K::Value, LineFault>
-    ensures stays { Stays window.old window.new }
+    ensures part {
+        let at = reader S.left S.faults in
+        PartRead (word_part K.says K.missing K.long)
+            (at window.old src.old) (at window.new src.new) result }
     ensures progress { IfOk result (λ _. window.old.passed < window.new.passed) }
-    ensures told { WhereTold (ahead window.old (S.left src.old)) (ahead window.new (S.left src.new))
-        (λ bytes rest. ReadsPart (word_part K.says K.missing K.long) result window.old bytes window.new rest) }
-    ensures count { S.faults src.old ≤ S.faults src.new }
-    ensures read { IsErrOf result LineFault.Read → Rose (S.faults src.old) (S.faults src.new) }
     ensures memory { IsErrOf result LineFault.Memory → ⊥ }
 {
     match K::front(window.behind_space()) {
@@ -79,12 +77,11 @@ pub(crate) fn first_word<S: Source, K: WordKind>(
     window: &mut Window,
     src: &mut S,
 ) -> Result<K::Value, LineFault>
-    ensures stays { Stays window.old window.new }
+    ensures part {
+        let at = reader S.left S.faults in
+        PartRead (word_part K.says K.missing K.long)
+            (at window.old src.old) (at window.new src.new) result }
     ensures progress { IfOk result (λ _. window.old.passed < window.new.passed) }
-    ensures told { WhereTold (ahead window.old (S.left src.old)) (ahead window.new (S.left src.new))
-        (λ bytes rest. ReadsPart (word_part K.says K.missing K.long) result window.old bytes window.new rest) }
-    ensures count { S.faults src.old ≤ S.faults src.new }
-    ensures read { IsErrOf result LineFault.Read → Rose (S.faults src.old) (S.faults src.new) }
     ensures memory { IsErrOf result LineFault.Memory → ⊥ }
 {
     match K::front(window.coming()) {
@@ -102,12 +99,11 @@ fn whole_word<S: Source, K: WordKind>(
     window: &mut Window,
     src: &mut S,
 ) -> Result<K::Value, LineFault>
-    ensures stays { Stays window.old window.new }
+    ensures part {
+        let at = reader S.left S.faults in
+        PartRead (word_part K.says K.missing K.long)
+            (at window.old src.old) (at window.new src.new) result }
     ensures progress { IfOk result (λ _. window.old.passed < window.new.passed) }
-    ensures told { WhereTold (ahead window.old (S.left src.old)) (ahead window.new (S.left src.new))
-        (λ bytes rest. ReadsPart (word_part K.says K.missing K.long) result window.old bytes window.new rest) }
-    ensures count { S.faults src.old ≤ S.faults src.new }
-    ensures read { IsErrOf result LineFault.Read → Rose (S.faults src.old) (S.faults src.new) }
     ensures memory { IsErrOf result LineFault.Memory → ⊥ }
 {
     match window.next(src) {
@@ -123,11 +119,9 @@ fn whole_word<S: Source, K: WordKind>(
 /// The line's end; any further word, however long, breaks Excess.
 #[inline(always)]
 pub fn end_line<S: Source>(window: &mut Window, src: &mut S) -> Result<(), LineFault>
-    ensures stays { Stays window.old window.new }
-    ensures told { WhereTold (ahead window.old (S.left src.old)) (ahead window.new (S.left src.new))
-        (λ bytes rest. EndsLine result window.old bytes window.new rest) }
-    ensures count { S.faults src.old ≤ S.faults src.new }
-    ensures read { IsErrOf result LineFault.Read → Rose (S.faults src.old) (S.faults src.new) }
+    ensures end {
+        let at = reader S.left S.faults in
+        EndRead (at window.old src.old) (at window.new src.new) result }
     ensures memory { IsErrOf result LineFault.Memory → ⊥ }
 {
     if window.is_at_line_feed() {
@@ -139,11 +133,9 @@ pub fn end_line<S: Source>(window: &mut Window, src: &mut S) -> Result<(), LineF
 // The line's end, where it isn't at the next byte.
 #[inline(never)]
 fn later_end<S: Source>(window: &mut Window, src: &mut S) -> Result<(), LineFault>
-    ensures stays { Stays window.old window.new }
-    ensures told { WhereTold (ahead window.old (S.left src.old)) (ahead window.new (S.left src.new))
-        (λ bytes rest. EndsLine result window.old bytes window.new rest) }
-    ensures count { S.faults src.old ≤ S.faults src.new }
-    ensures read { IsErrOf result LineFault.Read → Rose (S.faults src.old) (S.faults src.new) }
+    ensures end {
+        let at = reader S.left S.faults in
+        EndRead (at window.old src.old) (at window.new src.new) result }
     ensures memory { IsErrOf result LineFault.Memory → ⊥ }
 {
     match window.next(src) {

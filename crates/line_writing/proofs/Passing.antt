@@ -8,7 +8,7 @@ use Rattle.outside.proofs.Known.{Appends-join, Appends_none, Reopened-join, Appe
 use Rattle.std.specs.Prelude.{Result, Ok, Err, IsErr}
 use Rattle.outside.specs.declared.source.Failed.{Failed}
 use Rattle.line_writing.specs.Held.{Passed, Failing, Puts}
-use Rattle.line_writing.specs.Writing.{Wrote, FailedLine}
+use Rattle.line_writing.specs.Writing.{writer, Wrote, FailedLine}
 
 module _ {K : Type 0} (written : K → Option (List ℕ)) (finished : K → Option Bool) (faults : K → ℕ) where
   -- what is only held back more
@@ -54,7 +54,8 @@ module _ {K : Type 0} (written : K → Option (List ℕ)) (finished : K → Opti
   }
 
   -- a text that went whole to the sink, with nothing held before or after
-  pub Passed_whole : (a b : K) (room left : ℕ) (text : List ℕ) → Passed written finished faults a b [] [] text → room ≡ left + length text → Wrote written finished faults a b room left text
+  pub Passed_whole : (a b : K) (room left : ℕ) (text : List ℕ) → Passed written finished faults a b [] [] text → room ≡ left + length text
+      → Wrote text (writer written finished faults a room) (writer written finished faults b left)
   Passed_whole a b room left text p taken =
       let same : text ≡ p.front = p.split ∙ append-nil p.front in record {
         bytes = subst (λ (l : List ℕ). Appends (written a) (written b) l) (sym same) p.bytes;
@@ -64,7 +65,8 @@ module _ {K : Type 0} (written : K → Option (List ℕ)) (finished : K → Opti
       }
 
   -- a write that failed within a line that the room had space for
-  pub Failing_line : (a b : K) (room left : ℕ) (line : List ℕ) → Failing written faults a b line → length line ≤ room → left ≡ room → FailedLine written faults a b room left line
+  pub Failing_line : (a b : K) (room left : ℕ) (line : List ℕ) → Failing written faults a b line → length line ≤ room → left ≡ room
+      → FailedLine line (writer written finished faults a room) (writer written finished faults b left)
   Failing_line a b room left line p fits kept = record {
     broke = record { bytes = p.bytes; rose = p.rose; later = p.later; fell = omega (arith, kept); bounded = omega (arith, kept) };
     fits = fits;

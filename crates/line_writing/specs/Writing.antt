@@ -27,35 +27,49 @@ parts_words (p ∷ q ∷ ps) = part_words p ++ parts_words (q ∷ ps)
 abbrev pub line_words : ℕ → List Part → List (List ℕ)
 line_words letter ps = (letter ∷ []) ∷ parts_words ps
 
+-- what contracts see of a sink with the room that is left for its text: the bytes that were written and whether it is
+-- finished, where it tells them, and how often it has failed
+pub record Writer (K : Type 0) : Type 0 where
+  pub sink : K
+  pub written : Option (List ℕ)
+  pub finished : Option Bool
+  pub faults : ℕ
+  pub room : ℕ
+
+-- a sink, of which these are the bytes, the end and the count of faults, with this room
+abbrev pub writer : {K : Type 0} → (K → Option (List ℕ)) → (K → Option Bool) → (K → ℕ) → K → ℕ → Writer K
+writer written finished faults sink room =
+    record { sink = sink; written = written sink; finished = finished sink; faults = faults sink; room = room }
+
 -- a text was written whole, and the room fell by its length
-pub record Wrote {K : Type 0} (written : K → Option (List ℕ)) (finished : K → Option Bool) (faults : K → ℕ) (old new : K) (room left : ℕ) (text : List ℕ) : Type 0 where
-  pub bytes : Appends (written old) (written new) text
-  pub reopened : Reopened (finished old) (finished new) (length text)
-  pub later : faults old ≤ faults new
-  pub taken : room ≡ left + length text
+pub record Wrote {K : Type 0} (text : List ℕ) (old new : Writer K) : Type 0 where
+  pub bytes : Appends old.written new.written text
+  pub reopened : Reopened old.finished new.finished (length text)
+  pub later : old.faults ≤ new.faults
+  pub taken : old.room ≡ new.room + length text
 
 -- a write failed within a text: a first part was written, and the room fell by at most the text's length
-pub record BrokeOff {K : Type 0} (written : K → Option (List ℕ)) (faults : K → ℕ) (old new : K) (room left : ℕ) (text : List ℕ) : Type 0 where
-  pub bytes : AppendsPart (written old) (written new) text
-  pub rose : Rose (faults old) (faults new)
-  pub later : faults old ≤ faults new
-  pub fell : left ≤ room
-  pub bounded : room ≤ left + length text
+pub record BrokeOff {K : Type 0} (text : List ℕ) (old new : Writer K) : Type 0 where
+  pub bytes : AppendsPart old.written new.written text
+  pub rose : Rose old.faults new.faults
+  pub later : old.faults ≤ new.faults
+  pub fell : new.room ≤ old.room
+  pub bounded : old.room ≤ new.room + length text
 
 -- a write failed within a line that the room had space for, and the room stayed
-pub record FailedLine {K : Type 0} (written : K → Option (List ℕ)) (faults : K → ℕ) (old new : K) (room left : ℕ) (line : List ℕ) : Type 0 where
-  pub broke : BrokeOff written faults old new room left line
-  pub fits : length line ≤ room
-  pub kept : left ≡ room
+pub record FailedLine {K : Type 0} (line : List ℕ) (old new : Writer K) : Type 0 where
+  pub broke : BrokeOff line old new
+  pub fits : length line ≤ old.room
+  pub kept : new.room ≡ old.room
 
 -- a line was longer than the room, and nothing changed
-pub record RefusedLine {K : Type 0} (old new : K) (room left : ℕ) (line : List ℕ) : Type 0 where
-  pub longer : room < length line
-  pub same : new ≡ old
-  pub kept : left ≡ room
+pub record RefusedLine {K : Type 0} (line : List ℕ) (old new : Writer K) : Type 0 where
+  pub longer : old.room < length line
+  pub same : new.sink ≡ old.sink
+  pub kept : new.room ≡ old.room
 
 -- what a call that writes a line did, by its answer
-abbrev pub WritesLine : {K : Type 0} → (K → Option (List ℕ)) → (K → Option Bool) → (K → ℕ) → K → K → ℕ → ℕ → List ℕ → Result Unit WriteFault → Type 0
-WritesLine written finished faults old new room left line (Ok done) = Wrote written finished faults old new room left line
-WritesLine written finished faults old new room left line (Err answers.Write) = FailedLine written faults old new room left line
-WritesLine written finished faults old new room left line (Err answers.Exhausted) = RefusedLine old new room left line
+abbrev pub WritesLine : {K : Type 0} → List ℕ → Writer K → Writer K → Result Unit WriteFault → Type 0
+WritesLine line old new (Ok done) = Wrote line old new
+WritesLine line old new (Err answers.Write) = FailedLine line old new
+WritesLine line old new (Err answers.Exhausted) = RefusedLine line old new

@@ -5,7 +5,7 @@ ghost use Rattle.std.specs.Prelude.{◌≡◌, ◌+◌, ◌≤◌, ◌-◌, ◌�
 ghost use Rattle.std.specs.Option.{SomeIff};
 ghost use Rattle.session_rules.specs.Spelling.{line_text, status_text};
 ghost use Rattle.line_writing.specs.Held.{line_bytes, list_text, part_text, Puts};
-ghost use Rattle.line_writing.specs.Writing.{line_words, WritesLine};
+ghost use Rattle.line_writing.specs.Writing.{line_words, writer, WritesLine};
 
 mod digits;
 mod held;
@@ -57,8 +57,10 @@ pub fn write_parts<K: Sink>(
     letter: u8,
     parts: &[Part],
 ) -> Result<(), WriteFault>
-    ensures { WritesLine K.written K.finished K.faults sink.old sink.new room.old room.new
-        (line_text (line_words letter parts.now)) result }
+    ensures {
+        let at = writer K.written K.finished K.faults in
+        WritesLine (line_text (line_words letter parts.now))
+            (at sink.old room.old) (at sink.new room.new) result }
 {
     let Some(left) = room_behind_line(*room, parts) else {
         return Err(WriteFault::Exhausted);

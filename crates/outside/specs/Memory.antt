@@ -8,7 +8,7 @@ use Rattle.outside.specs.Faults.{one_more}
 -- what a source in memory has left, and which of its calls fail
 pub record SourceState : Type 0 where
   -- the pieces that are left, none of them empty
-  pub rest : List (List ℕ)
+  pub pieces : List (List ℕ)
   -- the numbers of the calls that fail
   pub failing : List ℕ
   -- the number of calls
@@ -60,14 +60,14 @@ is_failing failing calls = list_any (λ n. n == one_more calls) failing
 -- a read gave the first n bytes of the first piece, and took them off
 pub record GaveBytes (old new : SourceState) (buf : List ℕ) (result : Result ℕ Failed) (n : ℕ) : Type 0 where
   pub ok : result ≡ Ok n
-  pub bytes : take n buf ≡ take n (first_piece old.rest)
-  pub state : new ≡ record old { rest = taken_off n old.rest; calls = one_more old.calls }
+  pub bytes : take n buf ≡ take n (first_piece old.pieces)
+  pub state : new ≡ record old { pieces = taken_off n old.pieces; calls = one_more old.calls }
 
 -- a read from a source in memory: it fails exactly where its number is listed, and any other gives as much of the
 -- first piece as the buffer has room for
 pub record Gave (old new : SourceState) (buf : List ℕ) (result : Result ℕ Failed) : Type 0 where
   pub listed : is_failing old.failing old.calls ≡ true → (result ≡ Err (record {})) × (new ≡ record old { calls = one_more old.calls; faults = one_more old.faults })
-  pub other : is_failing old.failing old.calls ≡ false → GaveBytes old new buf result (min (length (first_piece old.rest)) (length buf))
+  pub other : is_failing old.failing old.calls ≡ false → GaveBytes old new buf result (min (length (first_piece old.pieces)) (length buf))
 
 -- a write to a sink in memory
 pub record Wrote (old new : SinkState) (piece : List ℕ) (result : Result ℕ Failed) : Type 0 where

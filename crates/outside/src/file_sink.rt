@@ -21,6 +21,9 @@ const HELD: usize = 65_536;
 /// A file to write, which is made anew at the first use, or a sink that always fails where there is no path. Bytes are
 /// held back and go to the file in large parts, so a fault of the file may come at a later write or at `finish`; the
 /// rest goes to the file at `finish`, or when the sink is dropped.
+///
+/// No clause can say what a file holds. So one thing is tested and not proved: that a write answers how many bytes were
+/// taken, and not how many there were.
 #[derive(Drop)]
 pub struct FileSink<'a, R: Files> {
     alloc: Global,

@@ -15,6 +15,9 @@ use std::rt::Files;
 
 /// A file to read, or nothing where there is no path. The file is opened at the first read. Each read goes to the file
 /// as it is, so the reader above should ask for large parts.
+///
+/// No clause can say what a file holds. So one thing is tested and not proved: that a read answers how many bytes it got,
+/// and not how many it was asked for.
 #[derive(Drop)]
 pub struct FileSource<'a, R: Files> {
     files: &'a R,

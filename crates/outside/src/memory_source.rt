@@ -28,7 +28,7 @@ impl Model for MemorySource {
 
     ghost Value = { SourceState };
 
-    ghost view = { λ s. record { rest = left_from s.used (drop s.next s.pieces.items); failing = s.failing.items; calls = s.calls; faults = s.faults } };
+    ghost view = { λ s. record { pieces = left_from s.used (drop s.next s.pieces.items); failing = s.failing.items; calls = s.calls; faults = s.faults } };
 
     ghost invariant = { λ s. s.next ≤ length s.pieces.items };
 }
@@ -36,8 +36,8 @@ impl Model for MemorySource {
 impl MemorySource {
     /// A source of the pieces joined. An empty piece is passed over, and the numbers may stand in any order.
     pub fn new(pieces: Vec<Vec<u8>>, failing: Vec<u64>) -> MemorySource
-        ensures state { result ≡ record { rest = without_empty (map (λ piece. piece.items) pieces.items); failing = failing.items; calls = 0; faults = 0 } }
-        ensures bytes { concat result.rest ≡ concat (map (λ piece. piece.items) pieces.items) }
+        ensures state { result ≡ record { pieces = without_empty (map (λ piece. piece.items) pieces.items); failing = failing.items; calls = 0; faults = 0 } }
+        ensures bytes { concat result.pieces ≡ concat (map (λ piece. piece.items) pieces.items) }
     {
         MemorySource {
             pieces,
@@ -56,15 +56,15 @@ fn copy_piece(pieces: &[Vec<u8>], next: &mut usize, used: &mut usize, buf: &mut 
     ensures next { next.new ≤ length pieces.now }
     ensures count { result ≡ min (length (first_piece (left_from used.old (drop next.old pieces.now)))) (length buf.old) }
     ensures copied { take result buf.new ≡ take result (first_piece (left_from used.old (drop next.old pieces.now))) }
-    ensures rest { left_from used.new (drop next.new pieces.now) ≡ taken_off result (left_from used.old (drop next.old pieces.now)) }
+    ensures pieces { left_from used.new (drop next.new pieces.now) ≡ taken_off result (left_from used.old (drop next.old pieces.now)) }
     ensures end { result ≡ 0 → 0 < length buf.old → left_from used.new (drop next.new pieces.now) ≡ [] }
 {
     while *next < pieces.len() {
         let piece = pieces[*next].as_slice();
         if *used < piece.len() {
-            let rest = &piece[*used..];
-            let count = rest.len().min(buf.len());
-            buf[..count].copy_from_slice(&rest[..count]);
+            let unused = &piece[*used..];
+            let count = unused.len().min(buf.len());
+            buf[..count].copy_from_slice(&unused[..count]);
             *used += count;
             return count;
         }
@@ -79,13 +79,13 @@ impl Source for MemorySource {
     ghost use Rattle.std.specs.List.{concat};
     ghost use Rattle.outside.specs.Memory.{Gave};
 
-    ghost left = { λ s. Some (concat s.rest) };
+    ghost left = { λ s. Some (concat s.pieces) };
 
     ghost faults = { λ s. s.faults };
 
     fn read(&mut self, buf: &mut [u8]) -> Result<usize, Failed>
         ensures bound { ReadsAtMost result buf.new }
-        ensures bytes { ReadConsumes (Some (concat self.old.rest)) (Some (concat self.new.rest)) result buf.new }
+        ensures bytes { ReadConsumes (Some (concat self.old.pieces)) (Some (concat self.new.pieces)) result buf.new }
         ensures cause { HasCause self.old.faults self.new.faults result }
 
         // Which outcome comes, and all that the call leaves.

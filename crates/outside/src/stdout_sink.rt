@@ -9,7 +9,8 @@ ghost use Rattle.outside.specs.Streams.{Becomes};
 use crate::{Failed, Sink};
 use std::marker::Model;
 
-/// Writes to the standard output. Each piece is passed on at once, so a line is best gathered before.
+/// Writes to the standard output. Each piece is passed on at once, so a line is best gathered before. As with files, it is
+/// tested and not proved that a write answers how many bytes were taken.
 #[derive(Drop)]
 pub struct StdoutSink<'a, P: Print> {
     print: &'a P,

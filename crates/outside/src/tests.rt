@@ -18,6 +18,16 @@ fn a_real_file_is_written_and_read(rt: HostRuntime) -> Result<(), Fail> {
     assert_eq!(rt; &buf[..count], b"first second".as_slice());
     assert_eq!(rt; source.read(&mut buf), Ok(0));
 
+    // The file grows behind its end while it is read, and then it is read in buffers of two bytes.
+    put(&mut sink, b" third")?;
+    sink.finish()?;
+    let mut small = [0u8; 4];
+    assert_eq!(rt; source.read(&mut small), Ok(4));
+    assert_eq!(rt; small.as_slice(), b" thi".as_slice());
+    assert_eq!(rt; source.read(&mut small), Ok(2));
+    assert_eq!(rt; &small[..2], b"rd".as_slice());
+    assert_eq!(rt; source.read(&mut small), Ok(0));
+
     let mut absent = FileSource::new(&rt, Some("absent"));
     assert_eq!(rt; absent.read(&mut buf), Err(Failed));
     let mut folder = FileSink::new(rt.alloc(), &rt, Some("."));

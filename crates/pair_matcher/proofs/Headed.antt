@@ -9,7 +9,7 @@ use Rattle.slice_tokens.specs.Place.{Place, WhereTold, at_start, ahead, later, f
 use Rattle.line_reading.specs.Whole.{Says, Breaks, BehindCut}
 use Rattle.icnf_lines.specs.declared.header.HeaderFault.TheVariants.{Syntax}
 use Rattle.icnf_lines.specs.Headers.{HeaderAnswers, Headless}
-use Rattle.line_reading.proofs.ByLetter.{told_map}
+use Rattle.line_reading.proofs.Joined.{told_map}
 use Rattle.pair_matcher.specs.Checks.{IsBehindHeader, PassesHeader}
 use Rattle.pair_matcher.proofs.CutLines.{cut_at_start, not_behind_cut, cut_behind}
 

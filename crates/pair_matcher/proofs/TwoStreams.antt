@@ -1,8 +1,7 @@
 -- Calls over two streams, each of which tells its bytes or doesn't: what is known of both is moved on by what a call says of one.
 use Rattle.std.proofs.Common.{◌≡◌, ℕ, List, Option, Some, None, subst}
 use Rattle.slice_tokens.specs.Place.{WhereTold}
-use Rattle.line_reading.proofs.Collecting.{told_then}
-use Rattle.line_reading.proofs.ByLetter.{told_map}
+use Rattle.line_reading.proofs.Joined.{told_then, told_map}
 use Rattle.pair_matcher.specs.Checks.{BothTold}
 
 -- a call over the first stream

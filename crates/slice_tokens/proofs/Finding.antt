@@ -5,7 +5,7 @@ use Rattle.std.proofs.lemmas.List.{drop_at, nil_from_length}
 use Rattle.std.specs.List.{count_by}
 use Rattle.session_rules.specs.Lines.{Line, is_nil, is_blank, is_line_feed, line_of, numbered, counts, most_bytes}
 use Rattle.slice_tokens.specs.declared.window.Standing.TheVariants.{Content}
-use Rattle.slice_tokens.specs.Place.{Place, WhereTold, ahead, room, lines_from, first_of, rest_of, bare_line, present, following_of, is_cut}
+use Rattle.slice_tokens.specs.Place.{Place, WhereTold, ahead, room, lines_from, first_of, behind_first, bare_line, present, following_of, is_cut}
 use Rattle.slice_tokens.specs.Due.{due, due_word, due_end, due_long, due_cut}
 use Rattle.slice_tokens.specs.Calls.{without_first}
 use Rattle.slice_tokens.specs.Held.{passed_over, is_word_byte, readable, blanks, word_len, Next, Finds}
@@ -112,8 +112,8 @@ next_some p b n f some here bound s =
       present = present_is q u f ∙ ap (first_of (bare_line p.line)) after
           ∙ sym (ap (λ (l : Line). let k : Line = record l { words = without_first l.words } in k) (present_is p t f ∙ ap (first_of (bare_line p.line)) before));
       behind = record {
-        later = later_is q u ∙ ap (filter counts) (following_is q u ∙ ap (λ st. following_of st (lines_from q u)) f ∙ ap rest_of after)
-            ∙ sym (later_is p t ∙ ap (filter counts) (following_is p t ∙ ap (λ st. following_of st (lines_from p t)) f ∙ ap rest_of before));
+        later = later_is q u ∙ ap (filter counts) (following_is q u ∙ ap (λ st. following_of st (lines_from q u)) f ∙ ap behind_first after)
+            ∙ sym (later_is p t ∙ ap (filter counts) (following_is p t ∙ ap (λ st. following_of st (lines_from p t)) f ∙ ap behind_first before));
         cut = cut_after n p b here bound;
         last = last_is q u ∙ ap (λ l. p.line + count_by is_line_feed l) seen
             ∙ sym (last_is p t ∙ ap (λ l. p.line + count_by is_line_feed l) s.whole ∙ ap (λ k. p.line + k) (count_free is_line_feed s.word s.rest (Free-from_Runs is_word_byte is_line_feed word_not_line_feed s.word s.runs)));

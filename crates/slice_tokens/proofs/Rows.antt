@@ -6,7 +6,7 @@ use Rattle.std.proofs.lemmas.List.Splits.{slice_split-cons_yes}
 use Rattle.session_rules.specs.Lines.{Line, is_nil, is_blank, is_line_feed, words, ends_in_word, line_of, numbered, has_content, counts, without_cut_word}
 use Rattle.slice_tokens.specs.declared.window.Standing.{Standing}
 use Rattle.slice_tokens.specs.declared.window.Standing.TheVariants.{Start, Content, Comment}
-use Rattle.slice_tokens.specs.Place.{first_of, rest_of, in_comment, without_words, following_of}
+use Rattle.slice_tokens.specs.Place.{first_of, behind_first, in_comment, without_words, following_of}
 use Rattle.slice_tokens.specs.Due.{due_of, due, due_word, due_end, due_long, due_cut, known_words}
 use Rattle.slice_tokens.specs.Held.{is_word_byte, same_standing}
 use Rattle.slice_tokens.proofs.Texts.{Runs, Free, Free-from_Runs, head_text, tail_texts, split_shape, split_front, AtBlank, words_blanks, ends_blanks, words_start, words_word, ends_behind, ends_words, ends_word, words_nil}
@@ -219,13 +219,13 @@ uncounted l ls e f = ap (λ q. if (l.cut || q) then l ∷ filter counts ls else 
 -- what is passed over of a line changes nothing of those behind it
 pub following_front : (st : Standing) (m : ℕ) (c : Bool) (s t : List ℕ) → same_standing st Start ≡ false → Free is_line_feed s → following_of st (rows m c (s ++ t)) ≡ following_of st (rows m c t)
 following_front Start m c s t e h = absurd (true≢false e)
-following_front Content m c s t e h = ap rest_of (rows_front m c s t h) ∙ sym (ap rest_of (rows_shape m c t))
+following_front Content m c s t e h = ap behind_first (rows_front m c s t h) ∙ sym (ap behind_first (rows_shape m c t))
 following_front Comment m c s t e h = ap in_comment (rows_front m c s t h) ∙ sym (ap in_comment (rows_shape m c t))
 
 -- nor does the end of the line
 pub following_end : (st : Standing) (m : ℕ) (c : Bool) (s : List ℕ) (b : ℕ) (t : List ℕ) → same_standing st Start ≡ false → Free is_line_feed s → is_line_feed b ≡ true
     → filter counts (following_of st (rows m c (s ++ (b ∷ t)))) ≡ filter counts (rows (m + 1) c t)
 following_end Start m c s b t e h f = absurd (true≢false e)
-following_end Content m c s b t e h f = ap (λ ls. filter counts (rest_of ls)) (rows_end m c s b t h f)
+following_end Content m c s b t e h f = ap (λ ls. filter counts (behind_first ls)) (rows_end m c s b t h f)
 following_end Comment m c s b t e h f =
     ap (λ ls. filter counts (in_comment ls)) (rows_end m c s b t h f) ∙ uncounted (without_words (line_of m false s)) (rows (m + 1) c t) refl refl

@@ -6,7 +6,7 @@ use Rattle.std.specs.List.{count_by}
 use Rattle.session_rules.specs.Lines.{Line, is_nil, is_blank, is_line_feed, words, line_of, numbered, has_content, counts, most_bytes}
 use Rattle.slice_tokens.specs.declared.window.Standing.{Standing}
 use Rattle.slice_tokens.specs.declared.window.Standing.TheVariants.{Start, Content, Comment}
-use Rattle.slice_tokens.specs.Place.{Place, lines_from, first_of, rest_of, in_comment, without_words, bare_line, present, following_of, later, is_cut, last_line}
+use Rattle.slice_tokens.specs.Place.{Place, lines_from, first_of, behind_first, in_comment, without_words, bare_line, present, following_of, later, is_cut, last_line}
 use Rattle.slice_tokens.specs.Calls.{but_comment, SameContent}
 use Rattle.slice_tokens.specs.Held.{same_standing, passed_over, past_line, is_word_byte, readable, blanks, EntersLine}
 use Rattle.slice_tokens.proofs.Texts.{Free, words_blanks, words_nil}
@@ -212,7 +212,7 @@ content_enters p b d h f inside no_feed no_c =
     present_is q u refl ∙ ap (first_of (bare_line p.line)) (same ∙ shape) in
     record {
       lines = following_is p t ∙ ap (λ st. following_of st (lines_from p t)) f ∙ shape ∙ ap (λ l. l ∷ numbered (p.line + 1) c (more_texts (y ∷ r))) (sym here)
-          ∙ ap (λ ls. present q u ∷ ls) (sym (following_is q u ∙ ap rest_of (same ∙ shape)));
+          ∙ ap (λ ls. present q u ∷ ls) (sym (following_is q u ∙ ap behind_first (same ∙ shape)));
       content = ap (λ l. has_content l.words) (present_is q u refl ∙ ap (first_of (bare_line p.line)) (same ∙ first_lines p b d inside))
           ∙ content_at_word (bare_line p.line) p.line c y r word ∙ not_c y no_c;
       cut = cut_at_content p b h;

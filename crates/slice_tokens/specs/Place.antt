@@ -50,9 +50,9 @@ abbrev pub first_of : Line → List Line → Line
 first_of other [] = other
 first_of other (line ∷ more) = line
 
-abbrev pub rest_of : List Line → List Line
-rest_of [] = []
-rest_of (line ∷ more) = more
+abbrev pub behind_first : List Line → List Line
+behind_first [] = []
+behind_first (line ∷ more) = more
 
 -- a line without its words
 abbrev pub without_words : Line → Line
@@ -77,7 +77,7 @@ present_of _ number lines = bare_line number
 
 abbrev pub following_of : Standing → List Line → List Line
 following_of Start lines = lines
-following_of Content lines = rest_of lines
+following_of Content lines = behind_first lines
 following_of Comment lines = in_comment lines
 
 -- the present content line with the words that are still to come; it has nothing where the window isn't in such a line

@@ -104,6 +104,15 @@ impl Window {
         })
     }
 
+    /// Does nothing. A caller learns from it what holds of every window: it has passed over at most 2^62 bytes, and the number
+    /// of its line is at most one more than these.
+    #[inline(always)]
+    pub fn recall_bounds(&self)
+        ensures { Moves self.now self.now }
+    {
+        let _buffer = &self.buf;
+    }
+
     /// The number of the line at which it stands: 1 before the first line, and the end line at the end of the stream.
     pub fn line(&self) -> u64
         ensures line { result ≡ self.now.line }
@@ -130,7 +139,7 @@ impl Window {
         ensures read { IsErrOf result TokenFault.Read → Rose (S.faults src.old) (S.faults src.new) }
         ensures* after { sem 𝓛 (Rests the_row self.entry (λ new. Leaves result self.old new (ahead self.old (S.left src.old)) (ahead new (S.left src.new)))) }
     {
-        let _ = &self.buf;
+        self.recall_bounds();
         if !self.is_in_content() {
             return Ok(Token::LineEnd);
         }
@@ -166,7 +175,7 @@ impl Window {
         ensures told { (left : Option (List ℕ)) → WhereTold (ahead self.old left) (ahead self.new left)
             (λ bytes rest. TakesWord (take count (behind_space self.old)) self.old bytes self.new rest) }
     {
-        let _ = &self.buf;
+        self.recall_bounds();
         self.pass(count + 1);
     }
 
@@ -176,7 +185,7 @@ impl Window {
         ensures value { result.now ≡ coming self.now }
         ensures sound { Moves self.now self.now }
     {
-        let _ = &self.buf;
+        self.recall_bounds();
         let readable = self.readable();
         if self.is_in_content() {
             readable
@@ -196,7 +205,7 @@ impl Window {
         ensures told { (left : Option (List ℕ)) → WhereTold (ahead self.old left) (ahead self.new left)
             (λ bytes rest. TakesWord (take count (coming self.old)) self.old bytes self.new rest) }
     {
-        let _ = &self.buf;
+        self.recall_bounds();
         self.pass(count);
     }
 
@@ -210,7 +219,7 @@ impl Window {
         ensures standing { self.new.standing ≡ self.old.standing }
         ensures place { self.new ≡ passed_over count self.old }
     {
-        let _ = &self.buf;
+        self.recall_bounds();
         self.pass(count);
     }
 
@@ -222,7 +231,7 @@ impl Window {
         ensures sound { Moves self.now self.now }
         ensures end { OnTrue result ((left : Option (List ℕ)) → IfSome (ahead self.now left) (λ bytes. due (present self.now bytes) ≡ due_end)) }
     {
-        let _ = &self.buf;
+        self.recall_bounds();
         self.sees_line_feed()
     }
 
@@ -242,7 +251,7 @@ impl Window {
         ensures count { S.faults src.old ≤ S.faults src.new }
         ensures read { IsErrOf result TokenFault.Read → Rose (S.faults src.old) (S.faults src.new) }
     {
-        let _ = &self.buf;
+        self.recall_bounds();
         'lines: loop {
             self.fill(src)?;
             if self.readable().is_empty() {
@@ -260,8 +269,8 @@ impl Window {
     }
 }
 
-// The steps that the two calls are made of. Where one begins with `let _ = &self.buf;`, its proof so gets to know what
-// holds of every window.
+// The steps that the two calls are made of. Where one begins with `recall_bounds`, its proof so gets to know what holds of
+// every window.
 impl Window {
     #[inline(always)]
     fn is_in_content(&self) -> bool
@@ -408,7 +417,7 @@ impl Window {
         ensures after { self.new ≡ passed_over (blanks self.old) self.old }
         ensures seen { Looks self.old result }
     {
-        let _ = &self.buf;
+        self.recall_bounds();
         let readable = self.readable();
         let count = blank_count(readable);
         let word = word_count(&readable[count..]);
@@ -440,7 +449,7 @@ impl Window {
         ensures count { S.faults src.old ≤ S.faults src.new }
         ensures read { result ≡ Err TokenFault.Read → Rose (S.faults src.old) (S.faults src.new) }
     {
-        let _ = &self.buf;
+        self.recall_bounds();
         'look: loop {
             match self.look() {
                 Look::Ended(word) => return Ok(word),
@@ -464,7 +473,7 @@ impl Window {
         ensures ended { self.new.ended ≡ self.old.ended }
         ensures skips { Skips self.old self.new }
     {
-        let _ = &self.buf;
+        self.recall_bounds();
         let readable = self.readable();
         let len = readable.len();
         match find_line_feed(readable) {
@@ -483,7 +492,7 @@ impl Window {
         ensures skips { OnFalse result (Skips self.old self.new) }
         ensures enters { OnTrue result (Enters self.old self.new) }
     {
-        let _ = &self.buf;
+        self.recall_bounds();
         let readable = self.readable();
         let len = readable.len();
         let count = blank_count(readable);

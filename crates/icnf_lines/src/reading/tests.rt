@@ -29,7 +29,7 @@ fn read_again(
         return Ok((None, 0));
     }
     let mut spare = Spare::new(alloc);
-    let mut room = 1_000;
+    let mut room = 100_000;
     for _ in 0..20 {
         match read_line(&mut spare, &mut window, &mut source) {
             Ok(Some(line)) => {
@@ -40,6 +40,17 @@ fn read_again(
         }
     }
     Ok((None, 0))
+}
+
+// An input of so many literals.
+fn long_input(alloc: Global, count: u32) -> Result<Vec<u8>, AllocError> {
+    let mut text = b"i".to_vec(alloc)?;
+    for i in 0..count {
+        text.extend_from_slice(b" 1")?;
+        text.push(b'0' + (i % 10) as u8)?;
+    }
+    text.extend_from_slice(b" 0")?;
+    Ok(text)
 }
 
 #[test]
@@ -54,6 +65,14 @@ fn lines_are_read_as_they_are_written(rt: HostRuntime) -> Result<(), Fail> {
         let answer = read_again(alloc, text.as_bytes(), most, &mut sink)?;
         assert_eq!(rt; answer, (None, 11), "{most}");
         assert_eq!(rt; sink.bytes(), wanted.as_bytes(), "{most}");
+        let mut line = long_input(alloc, 20_000)?;
+        let mut text = b"p icnf\n".to_vec(alloc)?;
+        text.extend_from_slice(&line)?;
+        let mut sink = MemorySink::new(alloc, 1_000, Vec::new(alloc));
+        let answer = read_again(alloc, text.as_slice(), most, &mut sink)?;
+        assert_eq!(rt; answer, (None, 2), "a long input, {most}");
+        line.push(b'\n')?;
+        assert_eq!(rt; sink.bytes(), line.as_slice(), "a long input, {most}");
     }
     Ok(())
 }

@@ -30,7 +30,7 @@ fn read_again(
         return Ok((None, 0));
     }
     let mut spare = Spare::new(alloc);
-    let mut room = 1_000;
+    let mut room = 100_000;
     for _ in 0..20 {
         match read_line(&mut spare, &mut window, &mut source) {
             Ok(Some(line)) => {
@@ -41,6 +41,25 @@ fn read_again(
         }
     }
     Ok((None, 0))
+}
+
+// Puts so many numbers of two digits behind a text, each behind a space, and the 0 at their end.
+fn put_list(text: &mut Vec<u8>, count: u32) -> Result<(), AllocError> {
+    for i in 0..count {
+        text.extend_from_slice(b" 1")?;
+        text.push(b'0' + (i % 10) as u8)?;
+    }
+    text.extend_from_slice(b" 0")
+}
+
+// A lemma of so many literals and hints, and a deletion of so many ids.
+fn long_lines(alloc: Global, count: u32) -> Result<Vec<u8>, AllocError> {
+    let mut text = b"l 1".to_vec(alloc)?;
+    put_list(&mut text, count)?;
+    put_list(&mut text, count)?;
+    text.extend_from_slice(b"\nd")?;
+    put_list(&mut text, count)?;
+    Ok(text)
 }
 
 #[test]
@@ -55,6 +74,14 @@ fn lines_are_read_as_they_are_written(rt: HostRuntime) -> Result<(), Fail> {
         let answer = read_again(alloc, text.as_bytes(), most, &mut sink)?;
         assert_eq!(rt; answer, (None, 11), "{most}");
         assert_eq!(rt; sink.bytes(), wanted.as_bytes(), "{most}");
+        let mut lines = long_lines(alloc, 1_001)?;
+        let mut text = b"p lidrup\n".to_vec(alloc)?;
+        text.extend_from_slice(&lines)?;
+        let mut sink = MemorySink::new(alloc, 1_000, Vec::new(alloc));
+        let answer = read_again(alloc, text.as_slice(), most, &mut sink)?;
+        assert_eq!(rt; answer, (None, 3), "long lines, {most}");
+        lines.push(b'\n')?;
+        assert_eq!(rt; sink.bytes(), lines.as_slice(), "long lines, {most}");
     }
     Ok(())
 }

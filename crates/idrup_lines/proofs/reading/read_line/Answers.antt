@@ -4,13 +4,12 @@ use Rattle.line_reading.proofs.ByLetter.{line_read, line_broken, line_not_entere
 use Rattle.idrup_lines.proofs.StepLines.{idrup_line_is}
 use Rattle.idrup_lines.proofs.reading.read_line.Goals as goal
 
-pub returns-in-Ok-clause-told : goal.returns-in-Ok-clause-told
-returns-in-Ok-clause-told g c = line_read step_at (λ ws. refl) idrup_line idrup_line_is c.in-Ok-Some.letter c.in-Ok.step _ _ _ c.args.window.now c.enter_line.new.window c.read_step.new.window c.read_step.ensures.stays.line
-    (rw c.in-Ok-Some.field-0-is at c.in-Ok-Some.ensures.told) c.in-Ok.ensures.told
+pub returns-in-Ok : goal.returns-in-Ok
+returns-in-Ok g c = line_read step_at (λ ws. refl) idrup_line idrup_line_is c.in-Ok-Some.letter c.in-Ok.step _ _ _ (rw c.in-Ok-Some.field-0-is at c.in-Ok-Some.ensures.letter) c.in-Ok.ensures
 
-pub returns-in-Err-read_step-clause-told : goal.returns-in-Err-read_step-clause-told
-returns-in-Err-read_step-clause-told g c = line_broken step_at (λ ws. refl) idrup_line idrup_line_is c.in-Ok-Some.letter c.in-Err-read_step.fault _ _ _ c.args.window.now c.enter_line.new.window c.read_step.new.window c.read_step.ensures.stays.line
-    (rw c.in-Ok-Some.field-0-is at c.in-Ok-Some.ensures.told) c.in-Err-read_step.ensures.told
+pub returns-in-Err-read_step : goal.returns-in-Err-read_step
+returns-in-Err-read_step g c =
+    line_broken step_at (λ ws. refl) idrup_line idrup_line_is c.in-Ok-Some.letter c.in-Err-read_step.fault _ _ _ (rw c.in-Ok-Some.field-0-is at c.in-Ok-Some.ensures.letter) c.in-Err-read_step.ensures
 
-pub returns-in-Err-clause-told : goal.returns-in-Err-clause-told
-returns-in-Err-clause-told g c = line_not_entered step_at (λ ws. refl) idrup_line idrup_line_is c.in-Err.fault _ _ c.args.window.now c.enter_line.new.window c.in-Err.ensures.told
+pub returns-in-Err : goal.returns-in-Err
+returns-in-Err g c = line_not_entered step_at (λ ws. refl) idrup_line idrup_line_is c.in-Err.fault _ _ c.in-Err.ensures.letter

@@ -1,6 +1,5 @@
-use Rattle.std.proofs.Common.{◌≡◌, ℕ, ◌≤◌, List, Option, IfSome, true, sym, ap, ◌∙◌, arith}
+use Rattle.std.proofs.Common.{◌≡◌, ℕ, List, Option, IfSome, true, sym, ◌∙◌}
 use Rattle.std.proofs.lemmas.Bool.{OnTrue_from}
-use Rattle.session_rules.specs.Lines.{most_bytes}
 use Rattle.slice_tokens.specs.Place.{ahead, present}
 use Rattle.slice_tokens.specs.Due.{due, due_end}
 use Rattle.slice_tokens.proofs.Front.{end_told}
@@ -9,6 +8,5 @@ use Rattle.slice_tokens.proofs.window.Window.is_at_line_feed.Goals as goal
 pub returns-clause-end : goal.returns-clause-end
 returns-clause-end c =
     let p = c.args.self.now in
-    let bound : p.passed ≤ most_bytes = omega (arith, c.self.invariant.bounded, ap (λ q. q.passed) c.self.view_is) in
-    let told : c.sees_line_feed.result ≡ true → (left : Option (List ℕ)) → IfSome (ahead p left) (λ bytes. due (present p bytes) ≡ due_end) = λ e left. end_told p left bound (sym c.sees_line_feed.ensures ∙ e) in
+    let told : c.sees_line_feed.result ≡ true → (left : Option (List ℕ)) → IfSome (ahead p left) (λ bytes. due (present p bytes) ≡ due_end) = λ e left. end_told p left c.recall_bounds.ensures.bounded (sym c.sees_line_feed.ensures ∙ e) in
     OnTrue_from c.sees_line_feed.result ((left : Option (List ℕ)) → IfSome (ahead p left) (λ bytes. due (present p bytes) ≡ due_end)) told

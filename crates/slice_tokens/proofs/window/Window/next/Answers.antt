@@ -1,7 +1,7 @@
-use Rattle.std.proofs.Common.{◌≡◌, Ok, false, refl, sym, ap, ◌∙◌, arith, le_refl}
+use Rattle.std.proofs.Common.{◌≡◌, Ok, false, refl, sym, ◌∙◌, le_refl}
 use Rattle.slice_tokens.specs.declared.token.Token.TheVariants.{LineEnd}
 use Rattle.slice_tokens.specs.Place.{ahead}
-use Rattle.slice_tokens.specs.Calls.{Moves, LeavesLines, stands_in_content}
+use Rattle.slice_tokens.specs.Calls.{LeavesLines, stands_in_content}
 use Rattle.slice_tokens.proofs.Told.{told_refl, told_bare, end_bare, later_refl}
 use Rattle.slice_tokens.proofs.window.Window.next.Goals as goal
 
@@ -9,18 +9,12 @@ pub returns-then-not-is_in_content : goal.returns-then-not-is_in_content
 returns-then-not-is_in_content g c =
     let p = c.args.self.now in
     let left = g.S.Source.left c.args.src.now in
-    let outside : stands_in_content p.standing ≡ false = sym c.is_in_content.ensures ∙ c.if-not-is_in_content.true in
-    let moves : Moves p p = record {
-      passed = le_refl p.passed;
-      bounded = omega (arith, c.self.invariant.bounded, ap (λ q. q.passed) c.self.view_is);
-      counted = omega (arith, c.self.invariant.counted, ap (λ q. q.passed) c.self.view_is, ap (λ q. q.line) c.self.view_is);
-      ended = λ e. e;
-    } in (
+    let outside : stands_in_content p.standing ≡ false = sym c.is_in_content.ensures ∙ c.if-not-is_in_content.true in (
       (
         refl,
         λ _. tt,
         record {
-          moves = moves;
+          moves = c.recall_bounds.ensures;
           line = refl;
           standing = refl;
           passes = end_bare p outside;

@@ -1,5 +1,4 @@
-use Rattle.std.proofs.Common.{◌≤◌, take, sym, ap, subst, arith}
-use Rattle.session_rules.specs.Lines.{most_bytes}
+use Rattle.std.proofs.Common.{take, sym, subst}
 use Rattle.slice_tokens.specs.Place.{WhereTold, ahead}
 use Rattle.slice_tokens.specs.Front.{behind_space, TakesWord}
 use Rattle.slice_tokens.proofs.Front.{takes_told}
@@ -8,6 +7,5 @@ use Rattle.slice_tokens.proofs.window.Window.take_word.Goals as goal
 pub returns-clause-told : goal.returns-clause-told
 returns-clause-told c = λ left.
     let p = c.args.self.now in
-    let bound : p.passed ≤ most_bytes = omega (arith, c.self.invariant.bounded, ap (λ q. q.passed) c.self.view_is) in
     subst (λ q. WhereTold (ahead p left) (ahead q left) (λ t u. TakesWord (take c.args.count (behind_space p)) p t q u)) (sym c.pass.ensures)
-    (takes_told p c.args.count left bound c.requires)
+    (takes_told p c.args.count left c.recall_bounds.ensures.bounded c.requires)

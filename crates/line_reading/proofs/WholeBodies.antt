@@ -8,11 +8,13 @@ use Rattle.session_rules.specs.declared.LineFault.{LineFault}
 use Rattle.session_rules.specs.declared.LineFault.TheVariants.{Syntax, Read, Memory}
 use Rattle.session_rules.specs.Lines.{Line}
 use Rattle.session_rules.specs.Reading.{Fault, wrong, missing, ◌>>=◌, Part, whole, own_id, literal_list, id_list}
-use Rattle.slice_tokens.specs.Place.{Place, WhereTold, present}
+use Rattle.slice_tokens.specs.Place.{Place, present}
 use Rattle.slice_tokens.specs.Due.{known_words}
 use Rattle.line_reading.specs.Parts.{PartAnswers, ReadsPart, end_fault, EndAnswers, EndsLine}
-use Rattle.line_reading.specs.Whole.{of_line, Tells, ReadsRest, literals_rest, ids_rest, id_literals_rest, id_literals_ids_rest, literals_ids_rest}
-use Rattle.line_reading.proofs.Collecting.{later_trans, told_then}
+use Rattle.line_reading.specs.Whole.{of_line, Tells, ReadsBody, literals_body, ids_body, id_literals_body, id_literals_ids_body, literals_ids_body}
+use Rattle.line_reading.specs.Readers.{Reader, PartRead, BodyRead}
+use Rattle.line_reading.proofs.Joined.{same_fault, in_line_then}
+use Rattle.line_reading.proofs.Collecting.{later_trans}
 
 -- ---- A part, and what comes behind it
 
@@ -21,8 +23,8 @@ module _ {A B : Type 0} (part : List (List ℕ) → Part A) (more : A → List (
   with_more ws = part ws >>= λ m. more m.0 m.1
 
   -- a part was read, and then the rest
-  pub rest_then : (x : A) (r : Result B LineFault) (p q s : Place) (t u v : List ℕ) → ReadsPart part (Ok x) p t q u → ReadsRest (more x) r q u s v → ReadsRest with_more r p t s v
-  rest_then x r p q s t u v h k = record {
+  pub body_then : (x : A) (r : Result B LineFault) (p q s : Place) (t u v : List ℕ) → ReadsPart part (Ok x) p t q u → ReadsBody (more x) r q u s v → ReadsBody with_more r p t s v
+  body_then x r p q s t u v h k = record {
     answer =
         let said : with_more (known_words (present p t)) ≡ more x (known_words (present q u)) = ap (λ o. o >>= λ m. more m.0 m.1) h.answer in
         subst (λ o. Tells (of_line (present p t).cut o) r) (sym said) (subst (λ c. Tells (of_line c (more x (known_words (present q u)))) r) h.line.cut k.answer);
@@ -39,8 +41,8 @@ module _ {A B : Type 0} (part : List (List ℕ) → Part A) (more : A → List (
   fault_said cut o Memory after c a = tt
 
   -- a part was at fault
-  pub rest_fault : (e : LineFault) (p q : Place) (t u : List ℕ) → ReadsPart part (Err e) p t q u → ReadsRest with_more (Err e) p t q u
-  rest_fault e p q t u h = record {
+  pub body_fault : (e : LineFault) (p q : Place) (t u : List ℕ) → ReadsPart part (Err e) p t q u → ReadsBody with_more (Err e) p t q u
+  body_fault e p q t u h = record {
     answer = fault_said (present p t).cut (part (known_words (present p t))) e (present q u) h.line.cut h.answer;
     behind = h.behind;
   }
@@ -59,7 +61,7 @@ module _ {A : Type 0} (x : A) where
   end_broken true (w ∷ ws) r e = let f : rules.Excess ≡ r = cc e in ap (λ z. Err z) f
   end_broken false (w ∷ ws) r e = let f : rules.Excess ≡ r = cc e in ap (λ z. Err z) f
 
-  pub end_then : (y : Unit) (p q : Place) (t u : List ℕ) → EndsLine (Ok y) p t q u → ReadsRest (whole x) (Ok x) p t q u
+  pub end_then : (y : Unit) (p q : Place) (t u : List ℕ) → EndsLine (Ok y) p t q u → ReadsBody (whole x) (Ok x) p t q u
   end_then y p q t u h = record { answer = end_said (present p t).cut (known_words (present p t)) h.answer; behind = h.behind }
 
   fault_at_end : (cut : Bool) (ws : List (List ℕ)) (e : LineFault) → EndAnswers (end_fault cut ws) (Err e) → Tells (of_line cut (whole x ws)) (Err e)
@@ -67,7 +69,7 @@ module _ {A : Type 0} (x : A) where
   fault_at_end cut ws Read a = tt
   fault_at_end cut ws Memory a = tt
 
-  pub end_fails : (e : LineFault) (p q : Place) (t u : List ℕ) → EndsLine (Err e) p t q u → ReadsRest (whole x) (Err e) p t q u
+  pub end_fails : (e : LineFault) (p q : Place) (t u : List ℕ) → EndsLine (Err e) p t q u → ReadsBody (whole x) (Err e) p t q u
   end_fails e p q t u h = record { answer = fault_at_end (present p t).cut (known_words (present p t)) e h.answer; behind = h.behind }
 
 -- ---- Another value of the same words
@@ -94,7 +96,7 @@ module _ {A B : Type 0} (f : A → B) where
   mapped_fault false (Err (missing w)) r e = let g : w ≡ r = cc e in ap (λ z. Err z) g
 
   pub mapped_ok : (says : List (List ℕ) → Result A Fault) (other : List (List ℕ) → Result B Fault) → ((ws : List (List ℕ)) → other ws ≡ mapped f (says ws))
-      → (x : A) (p q : Place) (t u : List ℕ) → ReadsRest says (Ok x) p t q u → ReadsRest other (Ok (f x)) p t q u
+      → (x : A) (p q : Place) (t u : List ℕ) → ReadsBody says (Ok x) p t q u → ReadsBody other (Ok (f x)) p t q u
   mapped_ok says other same x p q t u h = record {
     answer = ap (of_line (present p t).cut) (same (known_words (present p t))) ∙ mapped_line (present p t).cut (says (known_words (present p t))) x h.answer;
     behind = h.behind;
@@ -106,13 +108,13 @@ module _ {A B : Type 0} (f : A → B) where
   tells_mapped cut o Memory a = tt
 
   pub mapped_err : (says : List (List ℕ) → Result A Fault) (other : List (List ℕ) → Result B Fault) → ((ws : List (List ℕ)) → other ws ≡ mapped f (says ws))
-      → (e : LineFault) (p q : Place) (t u : List ℕ) → ReadsRest says (Err e) p t q u → ReadsRest other (Err e) p t q u
+      → (e : LineFault) (p q : Place) (t u : List ℕ) → ReadsBody says (Err e) p t q u → ReadsBody other (Err e) p t q u
   mapped_err says other same e p q t u h = record {
     answer = subst (λ o. Tells {A = B} (of_line (present p t).cut o) (Err e)) (sym (same (known_words (present p t)))) (tells_mapped (present p t).cut (says (known_words (present p t))) e h.answer);
     behind = h.behind;
   }
 
--- ---- The rests by their parts
+-- ---- The bodies by their parts
 
 whole-mapped : {A B : Type 0} (f : A → B) (x : A) (ws : List (List ℕ)) → whole (f x) ws ≡ mapped f (whole x ws)
 whole-mapped f x [] = refl
@@ -134,32 +136,30 @@ list_mapped f (Ok m) = whole-mapped f m.0 m.1
 list_mapped f (Err e) = refl
 
 -- the rest behind an id
-pub with_id : (i : ℕ) (ws : List (List ℕ)) → (literal_list ws >>= λ ls. whole (id_with i ls.0) ls.1) ≡ mapped (id_with i) (literals_rest ws)
+pub with_id : (i : ℕ) (ws : List (List ℕ)) → (literal_list ws >>= λ ls. whole (id_with i ls.0) ls.1) ≡ mapped (id_with i) (literals_body ws)
 with_id i ws = list_mapped (id_with i) (literal_list ws)
 
 -- the rest behind a literal list
-pub with_literals : (ls : List ℕ) (ws : List (List ℕ)) → (id_list ws >>= λ hs. whole (both_lists ls hs.0) hs.1) ≡ mapped (both_lists ls) (ids_rest ws)
+pub with_literals : (ls : List ℕ) (ws : List (List ℕ)) → (id_list ws >>= λ hs. whole (both_lists ls hs.0) hs.1) ≡ mapped (both_lists ls) (ids_body ws)
 with_literals ls ws = list_mapped (both_lists ls) (id_list ws)
 
 -- ---- Faults behind a part that was read
 
-pub fault_behind_literals : (ls : List ℕ) (e : LineFault) (a b c : Option (List ℕ)) (p q s : Place) → WhereTold a b (λ t u. ReadsPart literal_list (Ok ls) p t q u)
-    → WhereTold b c (λ u v. ReadsRest ids_rest (Err e) q u s v) → WhereTold a c (λ t v. ReadsRest literals_ids_rest (Err e) p t s v)
-fault_behind_literals ls e a b c p q s h k = told_then a b c _ _ _ h k (λ t u v i j.
-    rest_then literal_list (λ ls ws. id_list ws >>= λ hs. whole (both_lists ls hs.0) hs.1) ls (Err e) p q s t u v i
-    (mapped_err (both_lists ls) ids_rest (λ ws. id_list ws >>= λ hs. whole (both_lists ls hs.0) hs.1) (with_literals ls) e q s u v j))
+pub fault_behind_literals : (ls : List ℕ) (e : LineFault) (o m n : Reader) → PartRead literal_list o m (Ok ls) → BodyRead ids_body m n (Err e) → BodyRead literals_ids_body o n (Err e)
+fault_behind_literals ls e o m n h k = in_line_then _ _ (ReadsBody literals_ids_body (Err e)) _ _ _ o m n (same_fault e Read) h k (λ t u v i j.
+    body_then literal_list (λ ls ws. id_list ws >>= λ hs. whole (both_lists ls hs.0) hs.1) ls (Err e) o.place m.place n.place t u v i
+    (mapped_err (both_lists ls) ids_body (λ ws. id_list ws >>= λ hs. whole (both_lists ls hs.0) hs.1) (with_literals ls) e m.place n.place u v j))
 
-pub fault_behind_id : (i : ℕ) (e : LineFault) (a b c : Option (List ℕ)) (p q s : Place) → WhereTold a b (λ t u. ReadsPart own_id (Ok i) p t q u)
-    → WhereTold b c (λ u v. ReadsRest literals_rest (Err e) q u s v) → WhereTold a c (λ t v. ReadsRest id_literals_rest (Err e) p t s v)
-fault_behind_id i e a b c p q s h k = told_then a b c _ _ _ h k (λ t u v m j.
-    rest_then own_id (λ i ws. literal_list ws >>= λ ls. whole (id_with i ls.0) ls.1) i (Err e) p q s t u v m
-    (mapped_err (id_with i) literals_rest (λ ws. literal_list ws >>= λ ls. whole (id_with i ls.0) ls.1) (with_id i) e q s u v j))
+pub fault_behind_id : (i : ℕ) (e : LineFault) (o m n : Reader) → PartRead own_id o m (Ok i) → BodyRead literals_body m n (Err e) → BodyRead id_literals_body o n (Err e)
+fault_behind_id i e o m n h k = in_line_then _ _ (ReadsBody id_literals_body (Err e)) _ _ _ o m n (same_fault e Read) h k (λ t u v p j.
+    body_then own_id (λ i ws. literal_list ws >>= λ ls. whole (id_with i ls.0) ls.1) i (Err e) o.place m.place n.place t u v p
+    (mapped_err (id_with i) literals_body (λ ws. literal_list ws >>= λ ls. whole (id_with i ls.0) ls.1) (with_id i) e m.place n.place u v j))
 
 -- the rest behind an id, of two lists
 lists_behind : ℕ → List (List ℕ) → Result (ℕ × List ℕ × List ℕ) Fault
 lists_behind i ws = literal_list ws >>= λ ls. id_list ls.1 >>= λ hs. whole (with_first i (both_lists ls.0 hs.0)) hs.1
 
-lists_mapped : (i : ℕ) (ws : List (List ℕ)) → lists_behind i ws ≡ mapped (with_first i) (literals_ids_rest ws)
+lists_mapped : (i : ℕ) (ws : List (List ℕ)) → lists_behind i ws ≡ mapped (with_first i) (literals_ids_body ws)
 unfolding lists_behind
 lists_mapped i ws = by_literals (literal_list ws)
   where
@@ -172,9 +172,8 @@ lists_mapped i ws = by_literals (literal_list ws)
     by_literals (Ok m) = by_ids m.0 (id_list m.1)
     by_literals (Err e) = refl
 
-pub fault_behind_id_lists : (i : ℕ) (e : LineFault) (a b c : Option (List ℕ)) (p q s : Place) → WhereTold a b (λ t u. ReadsPart own_id (Ok i) p t q u)
-    → WhereTold b c (λ u v. ReadsRest literals_ids_rest (Err e) q u s v) → WhereTold a c (λ t v. ReadsRest id_literals_ids_rest (Err e) p t s v)
+pub fault_behind_id_lists : (i : ℕ) (e : LineFault) (o m n : Reader) → PartRead own_id o m (Ok i) → BodyRead literals_ids_body m n (Err e) → BodyRead id_literals_ids_body o n (Err e)
 unfolding lists_behind
-fault_behind_id_lists i e a b c p q s h k = told_then a b c _ _ _ h k (λ t u v m j.
-    rest_then own_id (λ i ws. literal_list ws >>= λ ls. id_list ls.1 >>= λ hs. whole (with_first i (both_lists ls.0 hs.0)) hs.1) i (Err e) p q s t u v m
-    (mapped_err (with_first i) literals_ids_rest (lists_behind i) (lists_mapped i) e q s u v j))
+fault_behind_id_lists i e o m n h k = in_line_then _ _ (ReadsBody id_literals_ids_body (Err e)) _ _ _ o m n (same_fault e Read) h k (λ t u v p j.
+    body_then own_id (λ i ws. literal_list ws >>= λ ls. id_list ls.1 >>= λ hs. whole (with_first i (both_lists ls.0 hs.0)) hs.1) i (Err e) o.place m.place n.place t u v p
+    (mapped_err (with_first i) literals_ids_body (lists_behind i) (lists_mapped i) e m.place n.place u v j))
