@@ -1,5 +1,5 @@
 -- What the judgement of each step without ids rests on.
-use Rattle.std.proofs.Common.{◌≡◌, ℕ, ◌+◌, Bool, true, false, nat_lt, List, [], ◌∷◌, ◌++◌, map, Option, Some, None, Result, Ok, Err, refl, sym, ap, ◌∙◌, subst, append-nil}
+use Rattle.std.proofs.Common.{◌≡◌, ℕ, ◌+◌, ◌≤◌, Bool, true, false, nat_lt, List, [], ◌∷◌, ◌++◌, map, Option, Some, None, Result, Ok, Err, refl, sym, ap, ◌∙◌, subst, append-nil}
 use Rattle.std.specs.Prelude.{slice_get, IfOk}
 use Rattle.std.proofs.lemmas.List.Elements.{filter_map-append}
 use Rattle.std.specs.FinMap as finmap
@@ -32,7 +32,7 @@ use Rattle.side_laws.proofs.Held.{holds_no_sets, sets_silent, sets_given, sets_d
 use Rattle.pair_matcher.specs.Sides.{first_rule, AreAfter, Judged}
 use Rattle.pair_matcher.specs.Inside.{kept_of_clause, clauses_of_engine}
 use Rattle.pair_matcher.proofs.Rules.{first-skip, first-here, first-kept, first-unkept, order_is, model_is, core_is}
-use Rattle.pair_matcher.proofs.Engines.{found_active, found_weakened, none_active, none_weakened, engine_deleted, engine_weakened, engine_restored, closes_is, grown_clauses}
+use Rattle.pair_matcher.proofs.Engines.{found_active, found_weakened, none_active, none_weakened, least_active, least_weakened, engine_deleted, engine_weakened, engine_restored, closes_is, grown_clauses}
 use Rattle.side_laws.proofs.Maps.{empty-kept_by}
 use Rattle.std.specs.Cmp.{nat_cmp_total}
 use Rattle.std.specs.Ordering.{nat_cmp}
@@ -50,10 +50,10 @@ abbrev pub TakesEvent : State → State → Event → Type 0
 TakesEvent s t e = (es : List Event) → StandsFor s es → StandsFor t (es ++ e ∷ [])
 
 -- an event that changes no clause
-after_event : (m : Clauses) (next : ℕ) (s t : State) (e : Event) → new_clause (steps.Event e) ≡ None → added_clause (steps.Event e) ≡ None → TakesEvent s t e
+after_event : (m : Clauses) (next : ℕ) (s t : State) (e : Event) → new_clause (steps.Event e) ≡ None → TakesEvent s t e
     → (ps : List Step) → AreAfter m next s ps → AreAfter m next t (ps ++ steps.Event e ∷ [])
-after_event m next s t e gives adds takes ps a = record {
-  clauses = sets_silent m next ps (steps.Event e) gives adds refl refl refl a.clauses;
+after_event m next s t e gives takes ps a = record {
+  clauses = sets_silent m next ps (steps.Event e) gives refl refl a.clauses;
   events = subst (StandsFor t) (sym (events-some ps e)) (takes (events_of ps) a.events);
 }
 
@@ -76,7 +76,7 @@ module _ (m n : Clauses) (next after : ℕ) (s t : State) (answer : Option Rule)
     pub query_done : answer ≡ None → TakesEvent s t (events.Query c) → Judged m next s m next t (steps.Event (events.Query c)) None
     unfolding own_faults
     query_done is takes = goes_on m next s m next t (steps.Event (events.Query c)) (λ ps a. order_is s (events_of ps) a.events answer (events.Query c) order ∙ is)
-        (after_event m next s t (events.Query c) refl refl takes)
+        (after_event m next s t (events.Query c) refl takes)
 
   module _ (w : StatusWord) (order : answer ≡ slice_get (order_rules s (kind_of (events.Status w))) 0) where
     pub status_order : (r : Rule) → answer ≡ Some r → Judged m next s n after t (steps.Event (events.Status w)) (Some r)
@@ -86,7 +86,7 @@ module _ (m n : Clauses) (next after : ℕ) (s t : State) (answer : Option Rule)
     pub status_done : answer ≡ None → TakesEvent s t (events.Status w) → Judged m next s m next t (steps.Event (events.Status w)) None
     unfolding own_faults
     status_done is takes = goes_on m next s m next t (steps.Event (events.Status w)) (λ ps a. order_is s (events_of ps) a.events answer (events.Status w) order ∙ is)
-        (after_event m next s t (events.Status w) refl refl takes)
+        (after_event m next s t (events.Status w) refl takes)
 
   module _ (c : List ℕ) (order : answer ≡ slice_get (order_rules s (kind_of (events.Model c))) 0) where
     pub model_order : (r : Rule) → answer ≡ Some r → Judged m next s n after t (steps.Event (events.Model c)) (Some r)
@@ -104,7 +104,7 @@ module _ (m n : Clauses) (next after : ℕ) (s t : State) (answer : Option Rule)
       model_broken r is = stops m next s n after t (steps.Event (events.Model c)) r (λ ps a. model_rest ps a ∙ is)
 
       pub model_done : own_answer ≡ None → TakesEvent s t (events.Model c) → Judged m next s m next t (steps.Event (events.Model c)) None
-      model_done is takes = goes_on m next s m next t (steps.Event (events.Model c)) (λ ps a. model_rest ps a ∙ is) (after_event m next s t (events.Model c) refl refl takes)
+      model_done is takes = goes_on m next s m next t (steps.Event (events.Model c)) (λ ps a. model_rest ps a ∙ is) (after_event m next s t (events.Model c) refl takes)
 
 -- ---- Cores
 
@@ -146,7 +146,7 @@ module _ (m n : Clauses) (next after : ℕ) (s t : State) (u : List ℕ) (answer
     unfolding own_faults core_first core_last
     core_done is test same takes = goes_on m next s n next t (steps.Event (events.Core u)) (λ ps a. first-skip (core_first ps) (core_last ps) (core_firsts ps a ∙ is)
         ∙ first-kept (closes (active_clauses ps) u) rules.CoreOpen (test.is next ps a.clauses))
-        (λ ps a. subst (λ z. AreAfter z next t (ps ++ steps.Event (events.Core u) ∷ [])) (sym same) (after_event m next s t (events.Core u) refl refl takes ps a))
+        (λ ps a. subst (λ z. AreAfter z next t (ps ++ steps.Event (events.Core u) ∷ [])) (sym same) (after_event m next s t (events.Core u) refl takes ps a))
 
 -- ---- Inputs and lemmas
 
@@ -161,7 +161,7 @@ module _ (m n : Clauses) (next : ℕ) (s t : State) (c : List ℕ) where
   unfolding own_faults
   input_done answer order is change takes = goes_on m next s n (next + 1) t (steps.Event (events.Input c)) (λ ps a. order_is s (events_of ps) a.events answer (events.Input c) order ∙ is)
       (λ ps a. record {
-        clauses = sets_given m n next ps (steps.Event (events.Input c)) c refl refl refl refl refl change a.clauses;
+        clauses = sets_given m n next ps (steps.Event (events.Input c)) c refl change a.clauses;
         events = subst (StandsFor t) (sym (events-some ps (events.Input c))) (takes (events_of ps) a.events);
       })
 
@@ -173,7 +173,7 @@ module _ (m n : Clauses) (next : ℕ) (s t : State) (c : List ℕ) where
   unfolding own_faults
   lemma_done test change = goes_on m next s n (next + 1) s (steps.Lemma c) (λ ps a. first-kept (closes (active_clauses ps) (map neg c)) rules.Lemma (test.is next ps a.clauses))
       (λ ps a. record {
-        clauses = sets_given m n next ps (steps.Lemma c) c refl refl refl refl refl change a.clauses;
+        clauses = sets_given m n next ps (steps.Lemma c) c refl change a.clauses;
         events = subst (StandsFor s) (sym (events-none ps (steps.Lemma c) refl)) a.events;
       })
 
@@ -199,34 +199,34 @@ module _ (m : Store) (e f : EngineView) (same : clauses_of m ≡ e.clauses) (nex
       (weakened_none (clauses_of_engine e) next ps a.clauses c (none_weakened m e same next ps a.clauses c set is none)))
 
   module _ (id : ℕ) where
-    pub deletion_done : store.IsActiveWith m set id → f ≡ engine.with_clauses e (finmap.remove e.clauses id) → Judged (clauses_of_engine e) next s (clauses_of_engine f) next s (steps.Delete c) None
+    pub deletion_done : store.IsActiveWith m set id → ((x : ℕ) → store.IsActiveWith m set x → id ≤ x) → f ≡ engine.with_clauses e (finmap.remove e.clauses id) → Judged (clauses_of_engine e) next s (clauses_of_engine f) next s (steps.Delete c) None
     unfolding own_faults
-    deletion_done found change = let g = found_active m e same set id found in let set_same = its_set c set is in
+    deletion_done found least change = let g = found_active m e same set id found in let set_same = its_set c set is in
         goes_on (clauses_of_engine e) next s (clauses_of_engine f) next s (steps.Delete c)
         (λ ps a. first-kept (nat_lt 0 (active_copies ps c)) (rules.NotActive 1) (active_some (clauses_of_engine e) next ps a.clauses c id set g set_same))
         (λ ps a. record {
-          clauses = sets_deleted (clauses_of_engine e) (clauses_of_engine f) next ps c id set set_same a.clauses g (engine_deleted e f id change);
+          clauses = sets_deleted (clauses_of_engine e) (clauses_of_engine f) next ps c id set a.clauses (least_active m e same next ps a.clauses c set is id set_same found least) (engine_deleted e f id change);
           events = subst (StandsFor s) (sym (events-none ps (steps.Delete c) refl)) a.events;
         })
 
-    pub weakening_done : store.IsActiveWith m set id → f ≡ engine.with_clauses e (finmap.insert e.clauses id (engine.weakened_clause (seen.literals_at e.clauses id)))
+    pub weakening_done : store.IsActiveWith m set id → ((x : ℕ) → store.IsActiveWith m set x → id ≤ x) → f ≡ engine.with_clauses e (finmap.insert e.clauses id (engine.weakened_clause (seen.literals_at e.clauses id)))
         → Judged (clauses_of_engine e) next s (clauses_of_engine f) next s (steps.Weaken c) None
     unfolding own_faults
-    weakening_done found change = let g = found_active m e same set id found in let set_same = its_set c set is in
+    weakening_done found least change = let g = found_active m e same set id found in let set_same = its_set c set is in
         goes_on (clauses_of_engine e) next s (clauses_of_engine f) next s (steps.Weaken c)
         (λ ps a. first-kept (nat_lt 0 (active_copies ps c)) (rules.NotActive 1) (active_some (clauses_of_engine e) next ps a.clauses c id set g set_same))
         (λ ps a. record {
-          clauses = sets_weakened (clauses_of_engine e) (clauses_of_engine f) next ps c id set set_same a.clauses g (engine_weakened e f id true set g change);
+          clauses = sets_weakened (clauses_of_engine e) (clauses_of_engine f) next ps c id set a.clauses (least_active m e same next ps a.clauses c set is id set_same found least) (engine_weakened e f id true set g change);
           events = subst (StandsFor s) (sym (events-none ps (steps.Weaken c) refl)) a.events;
         })
 
-    pub restoring_done : store.IsWeakenedWith m set id → engine.IsRestored e id f → Judged (clauses_of_engine e) next s (clauses_of_engine f) next s (steps.Restore c) None
+    pub restoring_done : store.IsWeakenedWith m set id → ((x : ℕ) → store.IsWeakenedWith m set x → id ≤ x) → engine.IsRestored e id f → Judged (clauses_of_engine e) next s (clauses_of_engine f) next s (steps.Restore c) None
     unfolding own_faults
-    restoring_done found change = let g = found_weakened m e same set id found in let set_same = its_set c set is in
+    restoring_done found least change = let g = found_weakened m e same set id found in let set_same = its_set c set is in
         goes_on (clauses_of_engine e) next s (clauses_of_engine f) next s (steps.Restore c)
         (λ ps a. first-kept (nat_lt 0 (weakened_copies ps c)) (rules.NotWeakened 1) (weakened_some (clauses_of_engine e) next ps a.clauses c id set g set_same))
         (λ ps a. record {
-          clauses = sets_restored (clauses_of_engine e) (clauses_of_engine f) next ps c id set set_same a.clauses g (engine_restored e f id false set g change);
+          clauses = sets_restored (clauses_of_engine e) (clauses_of_engine f) next ps c id set a.clauses (least_weakened m e same next ps a.clauses c set is id set_same found least) (engine_restored e f id false set g change);
           events = subst (StandsFor s) (sym (events-none ps (steps.Restore c) refl)) a.events;
         })
 

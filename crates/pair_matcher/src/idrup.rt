@@ -264,7 +264,8 @@ fn judge(p: &mut Parts, step: &Step) -> Result<Option<Rule>, AllocError>
 ///
 /// Contracts see whether it is live, its clauses by the ids that it gave, each active or weakened with its literal set, the
 /// next id, and what its events say: the phase, the assumptions, the inputs. It stands for a list of steps where these are
-/// what the steps leave: ids are given from 1 on, and copies of a clause are counted by its set.
+/// what the steps leave: inputs and lemmas give ids from 1 on, a deletion and a weakening name the least active id of the
+/// clause's set, and a restoring the least weakened one.
 #[derive(Drop)]
 pub struct IdrupSide {
     parts: Parts,

@@ -6,7 +6,7 @@
 //! behind another in one list of literals.
 #![tactic(auto)]
 
-ghost use Rattle.std.specs.Prelude.{◌≡◌, ◌≤◌, ◌∷◌, ◌++◌, ℕ, [], List, slice_get, OnOk, OnErr, IfNone};
+ghost use Rattle.std.specs.Prelude.{◌≡◌, ◌≤◌, ◌∷◌, ◌++◌, ℕ, [], List, slice_get, IsOk, OnOk, OnErr, IfNone};
 ghost use Rattle.lits.specs.Literal.{max_var};
 ghost use Rattle.session_rules.specs.History.{phase_told};
 ghost use Rattle.session_events.specs.State.{StandsFor, AreReserved, start, with_reserved, behind, kind_of, fits, order_rules, model_rules, core_rules};
@@ -102,11 +102,13 @@ impl Events {
         }
     }
 
-    /// Reserves the variables up to this one. An error, which means want of memory, leaves all as it was.
+    /// Reserves the variables up to this one. It takes no memory where they are reserved already; an error, which means that
+    /// memory was wanting, leaves all as it was.
     pub fn reserve(&mut self, vars: u32) -> Result<(), AllocError>
         requires { vars ≤ max_var }
         ensures ok { OnOk result (self.new ≡ with_reserved self.old vars) }
         ensures err { OnErr result (self.new ≡ self.old) }
+        ensures enough { vars ≤ self.old.reserved → IsOk result }
         ensures stands { (es : List Event) → StandsFor self.old es → StandsFor self.new es }
     {
         if vars <= self.reserved {

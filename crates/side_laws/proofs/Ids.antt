@@ -1,5 +1,5 @@
 -- What each step with ids changes of the clauses that are held.
-use Rattle.std.proofs.Common.{◌≡◌, ◌≢◌, ℕ, ◌+◌, ◌⊎◌, Bool, if◌then◌else◌, true, false, nat_eq, List, [], ◌∷◌, ◌++◌, map, filter, filter_map, flat_map, Option, Some, None, refl, sym, ◌∙◌, ap, subst, inl, inr, eq-eqb, ne_eqb, append_assoc, append-nil}
+use Rattle.std.proofs.Common.{◌≡◌, ◌≢◌, ℕ, ◌+◌, Bool, if◌then◌else◌, true, false, nat_eq, List, [], ◌∷◌, ◌++◌, filter, filter_map, flat_map, Option, Some, None, refl, sym, ◌∙◌, ap, inl, inr, eq-eqb, ne_eqb, append_assoc, append-nil}
 use Rattle.std.specs.Prelude.{option_map}
 use Rattle.std.specs.List.{last_or}
 use Rattle.std.proofs.lemmas.Option.{same_Some}
@@ -16,7 +16,7 @@ use Rattle.session_rules.specs.declared.LStep.TheVariants as lsteps
 use Rattle.session_rules.specs.declared.Standing.{Standing}
 use Rattle.session_rules.specs.declared.Standing.TheVariants.{Active, Weakened, Absent}
 use Rattle.session_rules.specs.History.{last}
-use Rattle.session_rules.specs.Own.{is_active, is_weakened, is_absent, each_is, mentions, standing, standing_after, given_clause, clause_or_none, clause_of, active_clause, first_not}
+use Rattle.session_rules.specs.Own.{is_active, each_is, mentions, standing, standing_after, given_clause, clause_or_none, clause_of, active_clause, first_not}
 use Rattle.side_laws.specs.Kept.{Kept, Clauses, kept, standing_of, active_literals, active_in, ChangesAt}
 use Rattle.session_rules.specs.Logic.{hints_fail}
 use Rattle.side_laws.specs.Ids.{HoldsIds, same_clause, SameClauses}

@@ -1,12 +1,12 @@
 -- The clauses of a map, and what one insertion or removal changes.
-use Rattle.std.proofs.Common.{◌≡◌, ◌≢◌, ℕ, ◌⊎◌, List, [], ◌∷◌, map, Option, Some, None, cond, true, false, refl, sym, ap, ◌∙◌, inl, inr, arith}
+use Rattle.std.proofs.Common.{◌≡◌, ◌≢◌, ℕ, ◌⊎◌, List, [], ◌∷◌, map, Some, None, true, false, refl, sym, ap, ◌∙◌, inl, inr, arith}
 use Rattle.std.specs.Prelude.{option_map}
 use Rattle.std.proofs.lemmas.Bool.{cases_Bool}
 use Rattle.std.proofs.lemmas.Bool.Decides.{nat_tests}
 use Rattle.std.specs.Ordering.{nat_cmp, eq_by_cmp}
 use Rattle.std.specs.Cmp.{nat_cmp_total}
 use Rattle.std.specs.FinMap.{FinMap, get, entries, find, empty, insert, remove, get-entries, get-from_entries, get-insert, get-remove, get-empty}
-use Rattle.side_laws.specs.Kept.{Kept, Clauses, kept_by, ChangesAt}
+use Rattle.side_laws.specs.Kept.{Kept, kept_by, ChangesAt}
 
 pub same_id : (q : ℕ) → eq_by_cmp nat_cmp q q ≡ true
 same_id q = grind (arith, nat_tests)
