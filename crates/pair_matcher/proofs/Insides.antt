@@ -15,7 +15,7 @@ use Rattle.side_laws.specs.Kept.{kept, kept_of_held, clauses_of_store, AreWithin
 use Rattle.side_laws.proofs.Maps.{get-kept_by, empty-kept_by}
 use Rattle.side_laws.proofs.Stores.{store_added, within-change, within-empty}
 use Rattle.side_laws.specs.Ids.{HoldsIds}
-use Rattle.pair_matcher.specs.Sides.{AreAfterIds}
+use Rattle.pair_matcher.specs.Sides.{AreAfterIds, holding_ids}
 use Rattle.propagation.specs.Engine.{EngineView, level_after, no_engine, Grows}
 use Rattle.propagation.proofs.Trail.{level_after-append}
 use Rattle.pair_matcher.specs.Inside.{IsInside, AreBelow, IsBetweenLines}
@@ -108,7 +108,7 @@ inside-new m s v e f = let g : s.reserved ≡ 0 = ap (λ z. z.reserved) f in rec
   events = omega arith;
 }
 
-pub stands-new : (m : Store) (s : State) → m ≡ finmap.empty → StandsFor s [] → AreAfterIds (clauses_of_store m) s []
+pub stands-new : (m : Store) (s : State) → m ≡ finmap.empty → StandsFor s [] → AreAfterIds (holding_ids (clauses_of_store m) s) []
 stands-new m s e h = record {
   clauses = subst (λ z. HoldsIds (clauses_of_store z) []) (sym e) (record {
     standings = λ id. rw (empty-kept_by kept_of_held id) refl;

@@ -10,7 +10,7 @@ ghost use Rattle.session_rules.specs.Pair.{is_idle};
 ghost use Rattle.session_events.specs.State.{AreReserved};
 ghost use Rattle.side_laws.specs.Kept.{clauses_of_store};
 ghost use Rattle.pair_matcher.specs.Sides.{StandsForIds, AreAfterIds, JudgedId, first_rule, takes_no_memory};
-ghost use Rattle.pair_matcher.specs.Inside.{IsInside};
+ghost use Rattle.pair_matcher.specs.Inside.{IsInside, state_of_ids};
 
 use crate::literals::{greatest_variable, negate};
 use crate::turns::{delete_each, restore_each, weaken_each};
@@ -35,7 +35,7 @@ struct Parts {
 fn reserve(p: &mut Parts, lits: &[Lit]) -> Result<(), AllocError>
     requires { IsInside p.old.store p.old.events p.old.hints }
     ensures reserved { OnOk result (AreReserved p.new.events lits.now) }
-    ensures stands { (ps : List LStep) → AreAfterIds (clauses_of_store p.old.store) p.old.events ps → AreAfterIds (clauses_of_store p.new.store) p.new.events ps }
+    ensures stands { (ps : List LStep) → AreAfterIds (state_of_ids p.old) ps → AreAfterIds (state_of_ids p.new) ps }
     ensures inside { IsInside p.new.store p.new.events p.new.hints }
 {
     let variable = greatest_variable(lits);
@@ -48,7 +48,7 @@ fn reserve(p: &mut Parts, lits: &[Lit]) -> Result<(), AllocError>
 fn judge_input(p: &mut Parts, id: Id, lits: &[Lit]) -> Result<Option<Rule>, AllocError>
     requires inside { IsInside p.old.store p.old.events p.old.hints }
     requires reserved { AreReserved p.old.events lits.now }
-    ensures judged { IfOk result (λ r. JudgedId (clauses_of_store p.old.store) p.old.events (clauses_of_store p.new.store) p.new.events (lsteps.Input id lits.now) r) }
+    ensures judged { IfOk result (λ r. JudgedId (state_of_ids p.old) (state_of_ids p.new) (lsteps.Input id lits.now) r) }
     ensures inside { IsInside p.new.store p.new.events p.new.hints }
 {
     if let Some(rule) = p.events.order_rule(Kind::Input) {
@@ -67,7 +67,7 @@ fn judge_input(p: &mut Parts, id: Id, lits: &[Lit]) -> Result<Option<Rule>, Allo
 fn judge_query(p: &mut Parts, lits: &[Lit]) -> Result<Option<Rule>, AllocError>
     requires inside { IsInside p.old.store p.old.events p.old.hints }
     requires reserved { AreReserved p.old.events lits.now }
-    ensures judged { IfOk result (λ r. JudgedId (clauses_of_store p.old.store) p.old.events (clauses_of_store p.new.store) p.new.events (lsteps.Query lits.now) r) }
+    ensures judged { IfOk result (λ r. JudgedId (state_of_ids p.old) (state_of_ids p.new) (lsteps.Query lits.now) r) }
     ensures inside { IsInside p.new.store p.new.events p.new.hints }
 {
     if let Some(rule) = p.events.order_rule(Kind::Query) {
@@ -80,7 +80,7 @@ fn judge_query(p: &mut Parts, lits: &[Lit]) -> Result<Option<Rule>, AllocError>
 /// Judges a status. It takes no memory.
 fn judge_status(p: &mut Parts, word: StatusWord) -> Option<Rule>
     requires { IsInside p.old.store p.old.events p.old.hints }
-    ensures judged { JudgedId (clauses_of_store p.old.store) p.old.events (clauses_of_store p.new.store) p.new.events (lsteps.Status word) result }
+    ensures judged { JudgedId (state_of_ids p.old) (state_of_ids p.new) (lsteps.Status word) result }
     ensures inside { IsInside p.new.store p.new.events p.new.hints }
 {
     if let Some(rule) = p.events.order_rule(Kind::Status) {
@@ -94,7 +94,7 @@ fn judge_status(p: &mut Parts, word: StatusWord) -> Option<Rule>
 fn judge_model(p: &mut Parts, m: &[Lit]) -> Option<Rule>
     requires inside { IsInside p.old.store p.old.events p.old.hints }
     requires reserved { AreReserved p.old.events m.now }
-    ensures judged { JudgedId (clauses_of_store p.old.store) p.old.events (clauses_of_store p.new.store) p.new.events (lsteps.Model m.now) result }
+    ensures judged { JudgedId (state_of_ids p.old) (state_of_ids p.new) (lsteps.Model m.now) result }
     ensures inside { IsInside p.new.store p.new.events p.new.hints }
 {
     if let Some(rule) = p.events.order_rule(Kind::Model) {
@@ -111,7 +111,7 @@ fn judge_model(p: &mut Parts, m: &[Lit]) -> Option<Rule>
 fn judge_core(p: &mut Parts, u: &[Lit], hints: &[Id]) -> Option<Rule>
     requires inside { IsInside p.old.store p.old.events p.old.hints }
     requires reserved { AreReserved p.old.events u.now }
-    ensures judged { JudgedId (clauses_of_store p.old.store) p.old.events (clauses_of_store p.new.store) p.new.events (lsteps.Core u.now hints.now) result }
+    ensures judged { JudgedId (state_of_ids p.old) (state_of_ids p.new) (lsteps.Core u.now hints.now) result }
     ensures inside { IsInside p.new.store p.new.events p.new.hints }
 {
     if let Some(rule) = p.events.order_rule(Kind::Core) {
@@ -137,7 +137,7 @@ fn judge_lemma(
 ) -> Result<Option<Rule>, AllocError>
     requires inside { IsInside p.old.store p.old.events p.old.hints }
     requires reserved { AreReserved p.old.events lits.now }
-    ensures judged { IfOk result (λ r. JudgedId (clauses_of_store p.old.store) p.old.events (clauses_of_store p.new.store) p.new.events (lsteps.Lemma id lits.now hints.now) r) }
+    ensures judged { IfOk result (λ r. JudgedId (state_of_ids p.old) (state_of_ids p.new) (lsteps.Lemma id lits.now hints.now) r) }
     ensures inside { IsInside p.new.store p.new.events p.new.hints }
 {
     negate(&mut p.negations, lits)?;
@@ -156,7 +156,7 @@ fn judge_lemma(
 /// Judges a deletion. It takes no memory.
 fn judge_deletion(p: &mut Parts, ids: &[Id]) -> Option<Rule>
     requires { IsInside p.old.store p.old.events p.old.hints }
-    ensures judged { JudgedId (clauses_of_store p.old.store) p.old.events (clauses_of_store p.new.store) p.new.events (lsteps.Delete ids.now) result }
+    ensures judged { JudgedId (state_of_ids p.old) (state_of_ids p.new) (lsteps.Delete ids.now) result }
     ensures inside { IsInside p.new.store p.new.events p.new.hints }
 {
     match delete_each(&mut p.store, ids) {
@@ -168,7 +168,7 @@ fn judge_deletion(p: &mut Parts, ids: &[Id]) -> Option<Rule>
 /// Judges a weakening.
 fn judge_weakening(p: &mut Parts, ids: &[Id]) -> Result<Option<Rule>, AllocError>
     requires { IsInside p.old.store p.old.events p.old.hints }
-    ensures judged { IfOk result (λ r. JudgedId (clauses_of_store p.old.store) p.old.events (clauses_of_store p.new.store) p.new.events (lsteps.Weaken ids.now) r) }
+    ensures judged { IfOk result (λ r. JudgedId (state_of_ids p.old) (state_of_ids p.new) (lsteps.Weaken ids.now) r) }
     ensures inside { IsInside p.new.store p.new.events p.new.hints }
 {
     match weaken_each(&mut p.store, ids) {
@@ -181,7 +181,7 @@ fn judge_weakening(p: &mut Parts, ids: &[Id]) -> Result<Option<Rule>, AllocError
 /// Judges a restoring.
 fn judge_restoring(p: &mut Parts, ids: &[Id]) -> Result<Option<Rule>, AllocError>
     requires { IsInside p.old.store p.old.events p.old.hints }
-    ensures judged { IfOk result (λ r. JudgedId (clauses_of_store p.old.store) p.old.events (clauses_of_store p.new.store) p.new.events (lsteps.Restore ids.now) r) }
+    ensures judged { IfOk result (λ r. JudgedId (state_of_ids p.old) (state_of_ids p.new) (lsteps.Restore ids.now) r) }
     ensures inside { IsInside p.new.store p.new.events p.new.hints }
 {
     match restore_each(&mut p.store, ids) {
@@ -194,7 +194,7 @@ fn judge_restoring(p: &mut Parts, ids: &[Id]) -> Result<Option<Rule>, AllocError
 /// Judges a step.
 fn judge(p: &mut Parts, step: &LStep) -> Result<Option<Rule>, AllocError>
     requires { IsInside p.old.store p.old.events p.old.hints }
-    ensures judged { IfOk result (λ r. JudgedId (clauses_of_store p.old.store) p.old.events (clauses_of_store p.new.store) p.new.events step.now r) }
+    ensures judged { IfOk result (λ r. JudgedId (state_of_ids p.old) (state_of_ids p.new) step.now r) }
     ensures inside { IsInside p.new.store p.new.events p.new.hints }
     ensures frugal { IsTrue (takes_no_memory step.now) → IsOk result }
 {
