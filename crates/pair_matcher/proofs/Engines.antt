@@ -16,7 +16,7 @@ use Rattle.propagation.specs.Clauses as seen
 use Rattle.propagation.specs.Clauses.{Clause, clause_of, clauses_of, active, active_at, slot_of}
 use Rattle.propagation.specs.Engine.{EngineView, with_clauses, active_clause, weakened_clause, IsRestored, Grows}
 use Rattle.propagation.proofs.ClausesMap.{get-clauses_of, Contains-active, at_active}
-use Rattle.side_laws.specs.Kept.{kept, kept_of_held, clauses_of_store, standing_of, ChangesAt}
+use Rattle.side_laws.specs.ClauseStates.{kept, kept_of_held, clauses_of_store, standing_of, ChangesAt}
 use Rattle.side_laws.specs.Sets.{HoldsSets, IsLeast, AreActive}
 use Rattle.side_laws.proofs.Maps.{get-kept_by, changes-insert, changes-remove}
 use Rattle.side_laws.proofs.Stores.{active-store, weakened-store, get-active, get-weakened}

@@ -25,7 +25,7 @@ use Rattle.hint_check.specs.Hints.{active_at, end_of}
 use Rattle.hint_check.specs.declared.HintEnd.{HintEnd}
 use Rattle.hint_check.specs.declared.HintEnd.TheVariants.{Closed, Fails}
 use Rattle.session_events.specs.State.{State, StandsFor, kind_of, order_rules, model_rules, core_rules}
-use Rattle.side_laws.specs.Kept.{Clauses, clauses_of_store}
+use Rattle.side_laws.specs.ClauseStates.{Clauses, clauses_of_store}
 use Rattle.side_laws.specs.Ids.{HoldsIds}
 use Rattle.side_laws.proofs.Ids.{holds_given, holds_silent, hints_over_kept}
 use Rattle.side_laws.proofs.Stores.{absent-store, store_added, active_in-store}

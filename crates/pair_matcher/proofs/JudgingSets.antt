@@ -26,7 +26,7 @@ use Rattle.propagation.specs.Clauses.{clauses_of, active}
 use Rattle.propagation.specs.Engine as engine
 use Rattle.propagation.specs.Engine.{EngineView}
 use Rattle.session_events.specs.State.{State, StandsFor, kind_of, order_rules, model_rules, core_rules}
-use Rattle.side_laws.specs.Kept.{Kept, Clauses, kept, ChangesAt}
+use Rattle.side_laws.specs.ClauseStates.{ClauseState, Clauses, kept, ChangesAt}
 use Rattle.side_laws.specs.Sets.{new_clause, HoldsSets}
 use Rattle.side_laws.proofs.Held.{holds_no_sets, sets_silent, sets_given, sets_deleted, sets_weakened, sets_restored, active_some, weakened_some, active_none, weakened_none}
 use Rattle.pair_matcher.specs.Sides.{first_rule, AreAfter, Judged, holding}
@@ -248,7 +248,7 @@ pub tested : (e : EngineView) (ls ms : List ℕ) (answer b : Bool) → (answer �
 tested e ls ms answer b sound complete h same = subst (λ z. TestsClosing (clauses_of_engine e) z b) same (subst (TestsClosing (clauses_of_engine e) ls) h
     (tests_closing e ls answer sound complete))
 
-pub tested_then : (e f g : EngineView) (id : ℕ) (now : Option Kept) → engine.Grows e f → ChangesAt (clauses_of_engine f) (clauses_of_engine g) id now → ChangesAt (clauses_of_engine e) (clauses_of_engine g) id now
+pub tested_then : (e f g : EngineView) (id : ℕ) (now : Option ClauseState) → engine.Grows e f → ChangesAt (clauses_of_engine f) (clauses_of_engine g) id now → ChangesAt (clauses_of_engine e) (clauses_of_engine g) id now
 tested_then e f g id now grows change = subst (λ z. ChangesAt z (clauses_of_engine g) id now) (grown_clauses e f grows) change
 
 -- ---- The start

@@ -4,14 +4,14 @@ use Rattle.lits.specs.Literal.{var}
 use Rattle.clause_store.specs.Clauses.{Store}
 use Rattle.propagation.specs.Clauses.{Clause}
 use Rattle.propagation.specs.Engine.{EngineView, level_after}
-use Rattle.side_laws.specs.Kept.{Kept, Clauses, kept, kept_by, clauses_of_store, AreWithin}
+use Rattle.side_laws.specs.ClauseStates.{ClauseState, Clauses, kept, kept_by, clauses_of_store, AreWithin}
 use Rattle.session_events.specs.State.{State}
 use Rattle.pair_matcher.specs.declared.idrup.Parts as idrup
 use Rattle.pair_matcher.specs.declared.lidrup.Parts as lidrup
 use Rattle.pair_matcher.specs.Sides.{IdrupState, LidrupState, holding, holding_ids}
 
 -- the hint rule has room for all variables, those of the clauses and those that the events reserved
-pub record IsInside (m : Store) (s : State) (vars : ℕ) : Type 0 where
+pub record HasHintRoom (m : Store) (s : State) (vars : ℕ) : Type 0 where
   pub clauses : AreWithin (clauses_of_store m) vars
   pub events : s.reserved ≤ vars
 
@@ -20,7 +20,7 @@ abbrev pub AreBelow : List ℕ → ℕ → Type 0
 AreBelow ls vars = All (λ l. var l ≤ vars) ls
 
 -- what is seen of a clause of an engine
-abbrev pub kept_of_clause : Clause → Kept
+abbrev pub kept_of_clause : Clause → ClauseState
 kept_of_clause c = kept (is_some c.slot) c.literals
 
 -- the clauses of an engine

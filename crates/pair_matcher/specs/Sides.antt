@@ -7,7 +7,7 @@ use Rattle.session_rules.specs.declared.Event.TheVariants as events
 use Rattle.session_rules.specs.declared.Step.{Step}
 use Rattle.session_rules.specs.declared.Step.TheVariants as steps
 use Rattle.session_rules.specs.Own.{events_of, own_faults, id_events_of, own_id_faults}
-use Rattle.side_laws.specs.Kept.{Clauses}
+use Rattle.side_laws.specs.ClauseStates.{Clauses}
 use Rattle.side_laws.specs.Ids.{HoldsIds}
 use Rattle.side_laws.specs.Sets.{HoldsSets}
 use Rattle.session_events.specs.State.{State}

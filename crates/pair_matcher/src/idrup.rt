@@ -275,7 +275,7 @@ pub struct IdrupSide {
 impl Model for IdrupSide {
     ghost use Rattle.std.specs.Prelude.{◌≤◌};
     ghost use Rattle.std.specs.Coded.{codes};
-    ghost use Rattle.side_laws.specs.Kept.{clauses_code};
+    ghost use Rattle.side_laws.specs.ClauseStates.{clauses_code};
     ghost use Rattle.pair_matcher.specs.Sides.{IdrupView};
     ghost use Rattle.pair_matcher.specs.Inside.{clauses_of_engine, IsBetweenLines};
 

@@ -2,7 +2,7 @@
 //!
 //! `Events` takes the events of a proof one after another. Before each it says the first rule that the event breaks: it
 //! doesn't fit the phase, a model clashes with itself or misses an assumption or an input, a core has a stranger. Models
-//! and cores are marked in a table by the literals' codes, so that each list is gone through once; the inputs lie one
+//! and cores are ticked in a table by the literals' codes, so that each list is gone through once; the inputs lie one
 //! behind another in one list of literals.
 #![tactic(auto)]
 
@@ -13,7 +13,7 @@ ghost use Rattle.session_events.specs.State.{StandsFor, AreReserved, start, with
 
 mod clause_list;
 mod laws;
-mod marks;
+mod ticks;
 mod rules;
 #[cfg(test)]
 mod tests;
@@ -72,19 +72,19 @@ pub struct Events {
     phase: Phase,
     assumed: Vec<Lit>,
     inputs: ClauseList,
-    marks: Vec<bool>,
+    ticks: Vec<bool>,
     reserved: u32,
 }
 
 impl Model for Events {
     ghost use Rattle.session_events.specs.State.{State};
-    ghost use Rattle.session_events.specs.Kept.{IsKept};
+    ghost use Rattle.session_events.specs.Room.{HasRoom};
 
     ghost Value = { State };
 
     ghost view = { λ e. record { phase = e.phase; assumed = e.assumed.items; inputs = e.inputs; reserved = e.reserved } };
 
-    ghost invariant = { λ e. IsKept e.marks.items e.assumed.items e.inputs e.reserved };
+    ghost invariant = { λ e. HasRoom e.ticks.items e.assumed.items e.inputs e.reserved };
 }
 
 impl Events {
@@ -97,7 +97,7 @@ impl Events {
             phase: Phase::Idle,
             assumed: Vec::new(alloc),
             inputs: ClauseList::new(alloc),
-            marks: Vec::new(alloc),
+            ticks: Vec::new(alloc),
             reserved: 0,
         }
     }
@@ -114,7 +114,7 @@ impl Events {
         if vars <= self.reserved {
             return Ok(());
         }
-        self.marks.resize(2 * vars as usize, false)?;
+        self.ticks.resize(2 * vars as usize, false)?;
         self.reserved = vars;
         Ok(())
     }
@@ -163,7 +163,7 @@ impl Events {
     {
         let assumed = self.assumed.as_slice();
         let inputs = &self.inputs;
-        rules::of_model(self.marks.as_mut_slice(), assumed, inputs, m)
+        rules::of_model(self.ticks.as_mut_slice(), assumed, inputs, m)
     }
 
     /// CoreStranger with the first literal of a core that isn't one of the last query, or `None` where there is none, and
@@ -174,7 +174,7 @@ impl Events {
         ensures unchanged { self.new ≡ self.old }
     {
         let assumed = self.assumed.as_slice();
-        rules::of_core(self.marks.as_mut_slice(), assumed, u)
+        rules::of_core(self.ticks.as_mut_slice(), assumed, u)
     }
 
     /// Takes an input. An error, which means want of memory, leaves all as it was.

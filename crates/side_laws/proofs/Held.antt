@@ -21,7 +21,7 @@ use Rattle.session_rules.specs.declared.Standing.{Standing}
 use Rattle.session_rules.specs.declared.Standing.TheVariants.{Active, Weakened, Absent}
 use Rattle.session_rules.specs.Logic.{closes}
 use Rattle.session_rules.specs.Own.{is_active, is_weakened, added_clause, removed_clause, restored_clause, copies, active_copies, weakened_copies, active_clauses}
-use Rattle.side_laws.specs.Kept.{Kept, Clauses, kept, ChangesAt}
+use Rattle.side_laws.specs.ClauseStates.{ClauseState, Clauses, kept, ChangesAt}
 use Rattle.side_laws.specs.Sets.{GivenClause, standing_so, is_such, with_first, behind_step, given_by, with_id, next_id, named_id, how_many, new_clause, finds, kept_as, kept_of_given, HoldsSets, IsLeast, SetsAmong, AreActive}
 use Rattle.side_laws.proofs.Maps.{same_or_other}
 use Rattle.side_laws.proofs.Given.{IsFirst, sets_pass, sets_pass_right, given-push, find-push, silent_step, giving_step, none_given, id-push, id-other, id-within, first-length, turned-there, turned-others, first-found, first-position, many-at, many-some, many-none, count-active, count-weakened}
@@ -75,11 +75,11 @@ module _ (m : Clauses) (next : ℕ) (ps : List Step) (h : HoldsSets m next ps) w
   given_at : (id : ℕ) (b : Bool) (ls : List ℕ) → get m id ≡ Some (kept b ls) → WasGiven (with_id (given_by ps) id) b ls
   given_at id b ls e = was_given (with_id (given_by ps) id) b ls (sym (h.clauses id) ∙ e)
 
-  pub held-within : (id : ℕ) (k : Kept) → get m id ≡ Some k → (0 < id) × (id < next)
+  pub held-within : (id : ℕ) (k : ClauseState) → get m id ≡ Some k → (0 < id) × (id < next)
   held-within id k e = let w = given_at id k.active k.literals e in let r = id-within (given_by ps) id w.given w.is in
       let f = h.given in let lt = r.1 in (r.0, omega arith)
 
-  pub held-set : (id : ℕ) (k : Kept) → get m id ≡ Some k → set_of k.literals ≡ k.literals
+  pub held-set : (id : ℕ) (k : ClauseState) → get m id ≡ Some k → set_of k.literals ≡ k.literals
   held-set id k e = let w = given_at id k.active k.literals e in ap set_of (sym w.set) ∙ set_of_set w.given.clause ∙ w.set
 
 -- ---- What is held
@@ -155,7 +155,7 @@ module _ (m : Clauses) (next : ℕ) (ps : List Step) (b : Bool) (c : List ℕ) (
 
   -- a step that turns it
   module _ (n : Clauses) (left : Standing) (p : Step) (turns : behind_step (given_by ps) p ≡ with_first (so b) left c (given_by ps)) (needs : finds (given_by ps) p ≡ list_any (is_such (so b) c) (given_by ps))
-      (now : Option Kept) (is : (d : List ℕ) → set_of d ≡ ls → now ≡ kept_as left d) (change : ChangesAt m n id now) where
+      (now : Option ClauseState) (is : (d : List ℕ) → set_of d ≡ ls → now ≡ kept_as left d) (change : ChangesAt m n id now) where
     all_turned : given_by (ps ++ p ∷ []) ≡ with_first (so b) left c (given_by ps)
     all_turned = given-push ps p ∙ turns
 

@@ -6,7 +6,7 @@ use Rattle.std.specs.FinMap.{get}
 use Rattle.session_rules.specs.declared.LStep.{LStep}
 use Rattle.session_rules.specs.declared.Standing.{Standing}
 use Rattle.session_rules.specs.Own.{each_is, mentions, given_clause, first_not}
-use Rattle.side_laws.specs.Kept.{Clauses, standing_of, AreWithin}
+use Rattle.side_laws.specs.ClauseStates.{Clauses, standing_of, AreWithin}
 use Rattle.side_laws.specs.Ids.{HoldsIds}
 use Rattle.side_laws.proofs.Ids.{holds_silent, mentions-push, first_not-named}
 

@@ -10,7 +10,7 @@ use Rattle.session_rules.specs.declared.Step.TheVariants as steps
 use Rattle.session_rules.specs.declared.Standing.{Standing}
 use Rattle.session_rules.specs.declared.Standing.TheVariants.{Active, Weakened, Absent}
 use Rattle.session_rules.specs.Own.{is_active, is_weakened}
-use Rattle.side_laws.specs.Kept.{Kept, Clauses, kept}
+use Rattle.side_laws.specs.ClauseStates.{ClauseState, Clauses, kept}
 
 -- ---- What steps leave of each id
 
@@ -121,12 +121,12 @@ all_find gs [] = true
 all_find gs (p ∷ ps) = let more = all_find (behind_step gs p) ps in finds gs p && more
 
 -- what is kept of a clause that stands so
-abbrev pub kept_as : Standing → List ℕ → Option Kept
+abbrev pub kept_as : Standing → List ℕ → Option ClauseState
 kept_as Active c = Some (kept true (set_of c))
 kept_as Weakened c = Some (kept false (set_of c))
 kept_as Absent c = None
 
-abbrev pub kept_of_given : Option GivenClause → Option Kept
+abbrev pub kept_of_given : Option GivenClause → Option ClauseState
 kept_of_given None = None
 kept_of_given (Some g) = kept_as g.standing g.clause
 

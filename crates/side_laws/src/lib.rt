@@ -13,7 +13,7 @@ ghost use Rattle.session_rules.specs.declared.LStep.TheVariants as lsteps;
 ghost use Rattle.session_rules.specs.declared.Standing.TheVariants.{Active};
 ghost use Rattle.session_rules.specs.Logic.{closes, hints_fail};
 ghost use Rattle.session_rules.specs.Own.{added_clause, removed_clause, weakened_clause, restored_clause, active_copies, weakened_copies, active_clauses, given_clause, mentions, active_clause, is_active, is_weakened};
-ghost use Rattle.side_laws.specs.Kept.{Clauses, kept, active_in, ChangesAt};
+ghost use Rattle.side_laws.specs.ClauseStates.{Clauses, kept, active_in, ChangesAt};
 ghost use Rattle.side_laws.specs.Ids.{HoldsIds, SameClauses};
 ghost use Rattle.side_laws.specs.Sets.{new_clause, given_by, named_id, how_many, IsLeastSuch, LeavesOthers, HoldsSets, IsLeast, SetsAmong, AreActive};
 

@@ -1,6 +1,6 @@
 use Rattle.std.proofs.Common.{ap, ◌∙◌, sym, subst, None}
 use Rattle.session_rules.specs.declared.Step.TheVariants as steps
-use Rattle.side_laws.specs.Kept.{kept_by}
+use Rattle.side_laws.specs.ClauseStates.{kept_by}
 use Rattle.pair_matcher.specs.Sides.{Judged, holding}
 use Rattle.pair_matcher.specs.Inside.{kept_of_clause, clauses_of_engine}
 use Rattle.pair_matcher.proofs.JudgingSets.{weakening_none, weakening_done}
