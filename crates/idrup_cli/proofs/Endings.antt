@@ -1,10 +1,11 @@
 -- What a status says of the verdict.
-use Rattle.std.proofs.Common.{◌≡◌, ℕ, ◌≤◌, List, sym, ◌∙◌, arith, None, Some}
+use Rattle.std.proofs.Common.{◌≡◌, ℕ, ◌≤◌, List, sym, ap, subst, ◌∙◌, arith, None, Some}
 use Rattle.std.specs.declared.option.Option.{Option}
 use Rattle.std.specs.Io.KnownBytes.{Appends}
 use Rattle.session_rules.specs.declared.Form.{Form}
 use Rattle.session_rules.specs.declared.Side.{Side}
 use Rattle.session_rules.specs.declared.Rule.{Rule}
+use Rattle.session_rules.specs.declared.Verdict.{Verdict}
 use Rattle.session_rules.specs.declared.Verdict.TheVariants.{Accepted, Refused}
 use Rattle.session_rules.specs.Pair.{verdict, Certified, events_in}
 use Rattle.session_laws.proofs.Accepted.{verdict_certifies}
@@ -12,7 +13,8 @@ use Rattle.idrup_cli.specs.declared.plan.Places.{Places}
 use Rattle.idrup_cli.specs.declared.ending.Ending.{Ending}
 use Rattle.idrup_cli.specs.declared.ending.Ending.TheVariants.{Checked, Usage, ReadInteraction, ReadProof, NoMemory}
 use Rattle.idrup_cli.specs.Plan.{IfCheck}
-use Rattle.idrup_cli.specs.Report.{Cause, line_of, status_of}
+use Rattle.outside.specs.Faults.{Rose}
+use Rattle.idrup_cli.specs.Report.{Cause, line_of, status_of, verdict_status}
 
 -- what holds of a check gives what it implies
 IfCheck-map : (P Q : Form → List ℕ → List ℕ → Type 0) → ((form : Form) (a b : List ℕ) → P form a b → Q form a b)
@@ -67,3 +69,40 @@ module _ (status : ℕ) (old new : Option (List ℕ)) (places : Option Places) (
   refuses ReadInteraction cause same whole = not_refused 3 (omega arith) same
   refuses ReadProof cause same whole = not_refused 3 (omega arith) same
   refuses NoMemory cause same whole = not_refused 5 (omega arith) same
+
+  abbrev IsAccepted : Form → List ℕ → List ℕ → Type 0
+  IsAccepted form a b = status ≡ 0 → (queries : ℕ) × (verdict form a b ≡ Accepted queries) × Appends old new (line_of (Checked (Accepted queries)))
+
+  not_accepted : (of : ℕ) → ¬ (of ≡ 0) → (¬ (status ≡ 4) → status ≡ of) → IfCheck places left right IsAccepted
+  not_accepted of other same = IfCheck-all IsAccepted (λ form a b zero. absurd (other (sym (same (λ four. omega arith)) ∙ zero))) places left right
+
+  -- with 0 it accepts, and its line was written
+  pub accepts : (ending : Ending) → Cause places left right first second ending → (¬ (status ≡ 4) → status ≡ status_of ending)
+      → (status ≤ 1 → Appends old new (line_of ending))
+      → IfCheck places left right (λ form a b. status ≡ 0 → (queries : ℕ) × (verdict form a b ≡ Accepted queries) × Appends old new (line_of (Checked (Accepted queries))))
+  accepts (Checked (Accepted queries)) cause same whole =
+      IfCheck-map (λ form a b. Accepted queries ≡ verdict form a b) IsAccepted (λ form a b is zero. (queries, sym is, whole (omega arith))) places left right cause.1
+  accepts (Checked (Refused side line rule)) cause same whole = not_accepted 1 (omega arith) same
+  accepts Usage cause same whole = not_accepted 2 (omega arith) same
+  accepts ReadInteraction cause same whole = not_accepted 3 (omega arith) same
+  accepts ReadProof cause same whole = not_accepted 3 (omega arith) same
+  accepts NoMemory cause same whole = not_accepted 5 (omega arith) same
+
+  not_four : (v : Verdict) → ¬ (verdict_status v ≡ 4)
+  not_four (Accepted queries) = omega arith
+  not_four (Refused side line rule) = omega arith
+
+  module _ (report : ℕ × ℕ) where
+    abbrev IsComplete : Form → List ℕ → List ℕ → Type 0
+    IsComplete form a b = ¬ Rose first.0 first.1 → ¬ Rose second.0 second.1 → ¬ Rose report.0 report.1 → ¬ (status ≡ 5) → status ≡ verdict_status (verdict form a b)
+
+    -- where no count rose and memory was there the status is that of the verdict
+    pub completes : (ending : Ending) → Cause places left right first second ending → (¬ (status ≡ 4) → status ≡ status_of ending)
+        → (status ≡ 4 → ¬ (status_of ending ≡ 4) → (status_of ending ≤ 1) × Rose report.0 report.1)
+        → IfCheck places left right (λ form a b. ¬ Rose first.0 first.1 → ¬ Rose second.0 second.1 → ¬ Rose report.0 report.1 → ¬ (status ≡ 5) → status ≡ verdict_status (verdict form a b))
+    completes (Checked v) cause same fault = IfCheck-map (λ form a b. v ≡ verdict form a b) IsComplete
+        (λ form a b is f s r five. same (λ four. r ((fault four (not_four v)).1)) ∙ ap verdict_status is) places left right cause.1
+    completes Usage cause same fault = subst (λ p. IfCheck p left right IsComplete) (sym cause) tt
+    completes ReadInteraction cause same fault = IfCheck-all IsComplete (λ form a b f s r five. absurd (f cause.1)) places left right
+    completes ReadProof cause same fault = IfCheck-all IsComplete (λ form a b f s r five. absurd (s cause.1)) places left right
+    completes NoMemory cause same fault = IfCheck-all IsComplete (λ form a b f s r five. absurd (five (same (λ four. let low = (fault four (omega arith)).0 in omega arith)))) places left right

@@ -116,14 +116,14 @@ Cause places left right first second NoMemory = IsSome places
 -- ---- What the report gets
 
 -- a line: whole where the report's count didn't rise, and else a first part of it
-pub record Tells (old new : Option (List ℕ)) (before now : ℕ) (line : List ℕ) : Type 0 where
+pub record GetsLine (old new : Option (List ℕ)) (before now : ℕ) (line : List ℕ) : Type 0 where
   pub part : AppendsPart old new line
   pub whole : ¬ Rose before now → Appends old new line
 
 -- what is answered, and what is left of the report, where an ending was told
-pub record Told (old new : Option (List ℕ)) (was_finished is_finished : Option Bool) (before now : ℕ) (ending : Ending) (status : ℕ) : Type 0 where
+pub record Reports (old new : Option (List ℕ)) (was_finished is_finished : Option Bool) (before now : ℕ) (ending : Ending) (status : ℕ) : Type 0 where
   pub later : before ≤ now
-  pub line : Tells old new before now (line_of ending)
+  pub line : GetsLine old new before now (line_of ending)
   -- the status is the ending's, but 4 for a verdict that can't be told
   pub same : ¬ (status ≡ 4) → status ≡ status_of ending
   pub fault : status ≡ 4 → ¬ (status_of ending ≡ 4) → (status_of ending ≤ 1) × Rose before now

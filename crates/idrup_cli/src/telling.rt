@@ -3,7 +3,7 @@ ghost use Rattle.std.specs.Prelude.{OnOk, OnErr, false};
 ghost use Rattle.std.specs.Io.KnownBytes.{Appends};
 ghost use Rattle.outside.specs.Faults.{HasCause};
 ghost use Rattle.outside.specs.Streams.{AppendsPart, Becomes};
-ghost use Rattle.idrup_cli.specs.Report.{line_of, Told};
+ghost use Rattle.idrup_cli.specs.Report.{line_of, Reports};
 
 use crate::ending::Ending;
 use crate::lines::push_ending;
@@ -26,7 +26,7 @@ fn put_line<E: Sink>(report: &mut E, ending: &Ending) -> Result<(), Failed>
 // Writes the line of an ending, finishes the report behind a verdict, and answers the status. A verdict that can't be
 // told gives 4.
 pub(crate) fn tell<E: Sink>(report: &mut E, ending: Ending) -> u8
-    ensures { Told (E.written report.old) (E.written report.new) (E.finished report.old) (E.finished report.new)
+    ensures { Reports (E.written report.old) (E.written report.new) (E.finished report.old) (E.finished report.new)
         (E.faults report.old) (E.faults report.new) ending result }
 {
     let status = ending.status();

@@ -99,7 +99,7 @@ fn lit(rt: &impl Abort, n: i64) -> Lit {
     Lit::new(n).expect(rt, "a literal")
 }
 
-// Tells an ending to a report that takes 7 bytes at a time, and compares what it holds then.
+// GetsLine an ending to a report that takes 7 bytes at a time, and compares what it holds then.
 fn assert_told(rt: &(impl Abort + AllocGlobal), ending: Ending, status: u8, line: &[u8]) {
     let mut report = MemorySink::new(rt.alloc(), 7, Vec::new(rt.alloc()));
     assert_eq!(rt; tell(&mut report, ending), status);

@@ -1,5 +1,5 @@
 // The top call of the program.
-ghost use Rattle.std.specs.Prelude.{◌≡◌, ◌⊎◌, ◌↔◌, ◌≤◌, ℕ, map, None, true, string_bytes};
+ghost use Rattle.std.specs.Prelude.{◌≡◌, ◌⊎◌, ◌↔◌, ◌≤◌, ℕ, codes, map, None, true, string_bytes};
 ghost use Rattle.std.specs.Io.KnownBytes.{Appends};
 ghost use Rattle.outside.specs.Faults.{Rose};
 ghost use Rattle.outside.specs.Streams.{Becomes};
@@ -7,9 +7,10 @@ ghost use Rattle.session_rules.specs.declared.Side.{Side as SideData};
 ghost use Rattle.session_rules.specs.declared.Rule.{Rule as RuleData};
 ghost use Rattle.session_rules.specs.declared.Verdict.TheVariants.{Accepted, Refused};
 ghost use Rattle.session_rules.specs.Pair.{verdict, Certified, events_in};
+ghost use Rattle.pair_matcher.specs.Checks.{HasBrokenHeader};
 ghost use Rattle.idrup_cli.specs.declared.ending.Ending.{Ending as EndingData};
 ghost use Rattle.idrup_cli.specs.Plan.{plan, IsCheck, IfCheck};
-ghost use Rattle.idrup_cli.specs.Report.{Cause, Tells, Told, line_of, verdict_status};
+ghost use Rattle.idrup_cli.specs.Report.{Cause, GetsLine, Reports, line_of, verdict_status};
 
 use crate::ending::Ending;
 use crate::telling::tell;
@@ -28,6 +29,7 @@ fn ending_of<A: Source, B: Source>(
     ensures cause { Cause (plan (map string_bytes words.now)) (A.left first.old) (B.left second.old)
         (A.faults first.old, A.faults first.new) (B.faults second.old, B.faults second.new) result }
     ensures untouched { plan (map string_bytes words.now) ≡ None → (first.new ≡ first.old) × (second.new ≡ second.old) }
+    ensures header { HasBrokenHeader (codes "icnf") (A.left first.old) → second.new ≡ second.old }
     ensures first_count { A.faults first.old ≤ A.faults first.new }
     ensures second_count { B.faults second.old ≤ B.faults second.new }
 {
@@ -86,9 +88,9 @@ pub fn run<A: Source, B: Source, C: Sink, D: Sink, E: Sink>(
     // 3 comes only where the count of a source rose in this call, and the line names a source whose count rose.
     ensures read { result ≡ 3
         → (Rose (A.faults first.old) (A.faults first.new)
-        × Tells (E.written report.old) (E.written report.new) (E.faults report.old) (E.faults report.new) (line_of Ending.ReadInteraction))
+        × GetsLine (E.written report.old) (E.written report.new) (E.faults report.old) (E.faults report.new) (line_of Ending.ReadInteraction))
         ⊎ (Rose (B.faults second.old) (B.faults second.new)
-        × Tells (E.written report.old) (E.written report.new) (E.faults report.old) (E.faults report.new) (line_of Ending.ReadProof)) }
+        × GetsLine (E.written report.old) (E.written report.new) (E.faults report.old) (E.faults report.new) (line_of Ending.ReadProof)) }
 
     // 4 comes only where the count of the report rose in this call: a check writes to no other sink.
     ensures write { result ≡ 4 → Rose (E.faults report.old) (E.faults report.new) }
@@ -98,10 +100,11 @@ pub fn run<A: Source, B: Source, C: Sink, D: Sink, E: Sink>(
     // a first part of it.
     ensures line { (ending : EndingData) × Cause (plan (map string_bytes words.now)) (A.left first.old) (B.left second.old)
         (A.faults first.old, A.faults first.new) (B.faults second.old, B.faults second.new) ending
-        × Told (E.written report.old) (E.written report.new) (E.finished report.old) (E.finished report.new)
+        × Reports (E.written report.old) (E.written report.new) (E.finished report.old) (E.finished report.new)
         (E.faults report.old) (E.faults report.new) ending result }
 
-    // What isn't used stays as it was, and no count falls.
+    // What isn't used stays as it was, and no count falls. Where the interaction's header is broken the proof isn't used.
+    ensures header { HasBrokenHeader (codes "icnf") (A.left first.old) → second.new ≡ second.old }
     ensures untouched { plan (map string_bytes words.now) ≡ None → (first.new ≡ first.old) × (second.new ≡ second.old) × (out.new ≡ out.old) × (proof.new ≡ proof.old) }
     ensures unwritten { IsCheck (plan (map string_bytes words.now)) → (out.new ≡ out.old) × (proof.new ≡ proof.old) }
     ensures first_count { A.faults first.old ≤ A.faults first.new }

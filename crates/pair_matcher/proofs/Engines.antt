@@ -1,5 +1,5 @@
 -- The clauses of an engine, and what its calls change.
-use Rattle.std.proofs.Common.{◌≡◌, ℕ, Bool, true, false, if◌then◌else◌, List, [], Option, Some, None, refl, sym, ap, ◌∙◌, subst}
+use Rattle.std.proofs.Common.{◌≡◌, ℕ, ◌≤◌, Bool, true, false, if◌then◌else◌, List, [], Option, Some, None, refl, sym, ap, ◌∙◌, subst}
 use Rattle.std.specs.Prelude.{is_some, option_map, option_and_then, unwrap_or}
 use Rattle.std.proofs.lemmas.Option.{same_Some}
 use Rattle.std.specs.FinMap as finmap
@@ -16,11 +16,11 @@ use Rattle.propagation.specs.Clauses as seen
 use Rattle.propagation.specs.Clauses.{Clause, clause_of, clauses_of, active, active_at, slot_of}
 use Rattle.propagation.specs.Engine.{EngineView, with_clauses, active_clause, weakened_clause, IsRestored, Grows}
 use Rattle.propagation.proofs.ClausesMap.{get-clauses_of, Contains-active, at_active}
-use Rattle.side_laws.specs.Kept.{kept, kept_of_held, clauses_of_store, standing_of, ChangesAt}
-use Rattle.side_laws.specs.Sets.{HoldsSets, AreActive}
+use Rattle.side_laws.specs.ClauseStates.{kept, kept_of_held, clauses_of_store, standing_of, ChangesAt}
+use Rattle.side_laws.specs.Sets.{HoldsSets, IsLeast, AreActive}
 use Rattle.side_laws.proofs.Maps.{get-kept_by, changes-insert, changes-remove}
 use Rattle.side_laws.proofs.Stores.{active-store, weakened-store, get-active, get-weakened}
-use Rattle.side_laws.proofs.Held.{closes_over_kept}
+use Rattle.side_laws.proofs.Held.{held-set, closes_over_kept}
 use Rattle.session_rules.specs.declared.Step.{Step}
 use Rattle.pair_matcher.specs.Inside.{kept_of_clause, clauses_of_engine}
 
@@ -47,19 +47,33 @@ module _ (m : Store) (e : EngineView) (same : clauses_of m ≡ e.clauses) where
 
   module _ (next : ℕ) (ps : List Step) (h : HoldsSets (clauses_of_engine e) next ps) (c set : List ℕ) (is : set ≡ set_of c) where
     as_set : (id : ℕ) (b : Bool) (ls : List ℕ) → get (clauses_of_engine e) id ≡ Some (kept b ls) → same_set c ls ≡ true → ls ≡ set
-    as_set id b ls g s = sym (h.sets id (kept b ls) g) ∙ sym (set_of-same c ls s) ∙ sym is
+    as_set id b ls g s = sym (held-set (clauses_of_engine e) next ps h id (kept b ls) g) ∙ sym (set_of-same c ls s) ∙ sym is
 
-    pub none_active : ((x : ℕ) → store.IsActiveWith m set x → ⊥) → (id : ℕ) (ls : List ℕ) → get (clauses_of_engine e) id ≡ Some (kept true ls) → same_set c ls ≡ true → ⊥
-    none_active none id ls g s =
+    active_with : (id : ℕ) (ls : List ℕ) → get (clauses_of_engine e) id ≡ Some (kept true ls) → same_set c ls ≡ true → store.IsActiveWith m set id
+    active_with id ls g s =
         let f : get (clauses_of_store m) id ≡ Some (kept true ls) = sym (engine_store id) ∙ g in
         let active : store.is_active m id ≡ true = active-store m id ∙ ap (λ o. own.is_active (standing_of o)) f in
-        none id (active, ap (λ k. k.literals) (same_Some _ _ (sym (get-active m id active) ∙ f)) ∙ as_set id true ls g s)
+        (active, ap (λ k. k.literals) (same_Some _ _ (sym (get-active m id active) ∙ f)) ∙ as_set id true ls g s)
 
-    pub none_weakened : ((x : ℕ) → store.IsWeakenedWith m set x → ⊥) → (id : ℕ) (ls : List ℕ) → get (clauses_of_engine e) id ≡ Some (kept false ls) → same_set c ls ≡ true → ⊥
-    none_weakened none id ls g s =
+    weakened_with : (id : ℕ) (ls : List ℕ) → get (clauses_of_engine e) id ≡ Some (kept false ls) → same_set c ls ≡ true → store.IsWeakenedWith m set id
+    weakened_with id ls g s =
         let f : get (clauses_of_store m) id ≡ Some (kept false ls) = sym (engine_store id) ∙ g in
         let weakened : store.is_weakened m id ≡ true = weakened-store m id ∙ ap (λ o. own.is_weakened (standing_of o)) f in
-        none id (weakened, ap (λ k. k.literals) (same_Some _ _ (sym (get-weakened m id weakened) ∙ f)) ∙ as_set id false ls g s)
+        (weakened, ap (λ k. k.literals) (same_Some _ _ (sym (get-weakened m id weakened) ∙ f)) ∙ as_set id false ls g s)
+
+    pub none_active : ((x : ℕ) → store.IsActiveWith m set x → ⊥) → (id : ℕ) (ls : List ℕ) → get (clauses_of_engine e) id ≡ Some (kept true ls) → same_set c ls ≡ true → ⊥
+    none_active none id ls g s = none id (active_with id ls g s)
+
+    pub none_weakened : ((x : ℕ) → store.IsWeakenedWith m set x → ⊥) → (id : ℕ) (ls : List ℕ) → get (clauses_of_engine e) id ≡ Some (kept false ls) → same_set c ls ≡ true → ⊥
+    none_weakened none id ls g s = none id (weakened_with id ls g s)
+
+    -- the least id of the store's is the least that is kept
+    module _ (id : ℕ) (its_set : same_set c set ≡ true) where
+      pub least_active : store.IsActiveWith m set id → ((x : ℕ) → store.IsActiveWith m set x → id ≤ x) → IsLeast (clauses_of_engine e) true c id set
+      least_active found least = record { there = found_active set id found; same = its_set; least = λ x xs g s. least x (active_with x xs g s) }
+
+      pub least_weakened : store.IsWeakenedWith m set id → ((x : ℕ) → store.IsWeakenedWith m set x → id ≤ x) → IsLeast (clauses_of_engine e) false c id set
+      least_weakened found least = record { there = found_weakened set id found; same = its_set; least = λ x xs g s. least x (weakened_with x xs g s) }
 
 -- ---- What is kept of an id
 

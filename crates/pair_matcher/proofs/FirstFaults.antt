@@ -20,7 +20,7 @@ use Rattle.slice_tokens.specs.Calls.{InLine, AtEnd, AtBound, OnlyCut}
 use Rattle.line_reading.specs.Whole.{Says, Breaks, BehindCut}
 use Rattle.icnf_lines.specs.Matching.{Meets}
 use Rattle.pair_matcher.specs.Sides.{first_rule}
-use Rattle.pair_matcher.specs.Checks.{EndsCut, IsBehindHeader, query_count, queries_in, all_queries, Checking, AtStep, AtEvent, AtProofEnd, AtSurplus}
+use Rattle.pair_matcher.specs.Checks.{EndsCut, at, IsBehindHeader, query_count, queries_in, all_queries, Checking, AtStep, AtEvent, AtProofEnd, AtSurplus}
 use Rattle.pair_matcher.proofs.CutLines.{not_behind_cut, cut_behind}
 
 -- ---- The first of some rules
@@ -104,14 +104,14 @@ module _ {S : Type 0} (form : ProofForm S) where
   accepted n a b e c = ap Accepted (sym c) ∙ ap (verdict_of (all_queries form b)) (sym e)
 
   -- the header of the interaction is broken, or that of the proof
-  pub asked_header : (a b : List ℕ) (number : ℕ) (r : Rule) → header_fault (codes "icnf") a ≡ Some (number, r) → Refused Interaction number r ≡ verdict_by form a b
+  pub interaction_header : (a b : List ℕ) (number : ℕ) (r : Rule) → header_fault (codes "icnf") a ≡ Some (number, r) → Refused Interaction number r ≡ verdict_by form a b
   unfolding pair_refusals
-  asked_header a b number r e = let rest = faults_from form [] (end_line b) (drop 1 (lines b)) (drop 1 (lines a)) in
+  interaction_header a b number r e = let rest = faults_from form [] (end_line b) (drop 1 (lines b)) (drop 1 (lines a)) in
       refused_first Interaction number r (one_refusal Proof (header_fault form.name b) ++ rest) a b (ap (λ h. one_refusal Interaction h ++ one_refusal Proof (header_fault form.name b) ++ rest) e)
 
-  pub told_header : (a b : List ℕ) (number : ℕ) (r : Rule) → header_fault (codes "icnf") a ≡ None → header_fault form.name b ≡ Some (number, r) → Refused Proof number r ≡ verdict_by form a b
+  pub proof_header : (a b : List ℕ) (number : ℕ) (r : Rule) → header_fault (codes "icnf") a ≡ None → header_fault form.name b ≡ Some (number, r) → Refused Proof number r ≡ verdict_by form a b
   unfolding pair_refusals
-  told_header a b number r e f = let rest = faults_from form [] (end_line b) (drop 1 (lines b)) (drop 1 (lines a)) in
+  proof_header a b number r e f = let rest = faults_from form [] (end_line b) (drop 1 (lines b)) (drop 1 (lines a)) in
       refused_first Proof number r rest a b (ap (λ h. one_refusal Interaction h ++ one_refusal Proof (header_fault form.name b) ++ rest) e ∙ ap (λ h. one_refusal Proof h ++ rest) f)
 
   -- ---- Lines of the proof
@@ -130,24 +130,24 @@ module _ {S : Type 0} (form : ProofForm S) where
   no_queries = refl
 
 module _ {S : Type 0} (form : ProofForm S) (stands : List S → Type 0) (queries : ℕ) (a b : List ℕ) where
-  pub begins : (asked told : Place) (ta tb : List ℕ) → IsBehindHeader (codes "icnf") a asked ta → IsBehindHeader form.name b told tb → stands [] → Checking form stands 0 asked told a ta b tb
+  pub begins : (interaction proof : Place) (ta tb : List ℕ) → IsBehindHeader (codes "icnf") a interaction ta → IsBehindHeader form.name b proof tb → stands [] → Checking form stands (at 0 interaction proof) a ta b tb
   unfolding pair_refusals
-  begins asked told ta tb h k s = let count : all_queries form b ≡ queries_in form (later told tb) = ap (queries_in form) k.lines in record {
+  begins interaction proof ta tb h k s = let count : all_queries form b ≡ queries_in form (later proof tb) = ap (queries_in form) k.lines in record {
     steps = [];
     behind = s;
     faults = ap (λ o. one_refusal Interaction o ++ one_refusal Proof (header_fault form.name b) ++ faults_from form [] (end_line b) (drop 1 (lines b)) (drop 1 (lines a))) h.kept
         ∙ ap (λ o. one_refusal Proof o ++ faults_from form [] (end_line b) (drop 1 (lines b)) (drop 1 (lines a))) k.kept
-        ∙ ap (λ xs. faults_from form [] (end_line b) xs (drop 1 (lines a))) k.lines ∙ ap (λ xs. faults_from form [] (end_line b) (later told tb) xs) h.lines;
+        ∙ ap (λ xs. faults_from form [] (end_line b) xs (drop 1 (lines a))) k.lines ∙ ap (λ xs. faults_from form [] (end_line b) (later proof tb) xs) h.lines;
     count = omega (arith, count);
     last = k.last;
-    asked_cut = h.cut;
-    told_cut = k.cut;
+    interaction_cut = h.cut;
+    proof_cut = k.cut;
   }
 
   -- a line of the proof was read
-  pub step_read : (asked p q : Place) (ta tb tc : List ℕ) (step : S) → Checking form stands queries asked p a ta b tb → Says form.read step p tb q tc → AtStep form stands queries asked q step a ta b tc
-  step_read asked p q ta tb tc step k s =
-      let ls = later asked ta in
+  pub step_read : (interaction p q : Place) (ta tb tc : List ℕ) (step : S) → Checking form stands (at queries interaction p) a ta b tb → Says form.read step p tb q tc → AtStep form stands (at queries interaction q) step a ta b tc
+  step_read interaction p q ta tb tc step k s =
+      let ls = later interaction ta in
       let count : queries_in form (later p tb) ≡ query_count (form.event step) + queries_in form (later q tc) = ap (queries_in form) s.lines ∙ queries-cons form s.line (later q tc) step s.value in record {
         steps = k.steps;
         behind = k.behind;
@@ -155,23 +155,23 @@ module _ {S : Type 0} (form : ProofForm S) (stands : List S → Type 0) (queries
             ∙ ap (λ n. line_faults form k.steps n (Ok step) ls (faults_from form (k.steps ++ step ∷ []) (end_line b) (later q tc) (drop (partners_of form (Ok step) ls) ls))) s.number;
         count = k.count ∙ ap (λ n. queries + n) count;
         last = s.last ∙ k.last;
-        asked_cut = k.asked_cut;
-        told_cut = cut_behind form.read s.line step p q tb tc s.lines s.value s.cut k.told_cut;
+        interaction_cut = k.interaction_cut;
+        proof_cut = cut_behind form.read s.line step p q tb tc s.lines s.value s.cut k.proof_cut;
       }
 
   -- it breaks a rule of syntax
-  pub line_broken : (asked p q : Place) (ta tb : List ℕ) (r : Rule) → Checking form stands queries asked p a ta b tb → Breaks form.read r p tb q ⊎ BehindCut r p tb → Refused Proof q.line r ≡ verdict_by form a b
-  line_broken asked p q ta tb r k (inr c) = absurd (not_behind_cut r p tb k.told_cut c)
-  line_broken asked p q ta tb r k (inl s) = let ls = later asked ta in
+  pub line_broken : (interaction p q : Place) (ta tb : List ℕ) (r : Rule) → Checking form stands (at queries interaction p) a ta b tb → Breaks form.read r p tb q ⊎ BehindCut r p tb → Refused Proof q.line r ≡ verdict_by form a b
+  line_broken interaction p q ta tb r k (inr c) = absurd (not_behind_cut r p tb k.proof_cut c)
+  line_broken interaction p q ta tb r k (inl s) = let ls = later interaction ta in
       refused_first form Proof q.line r [] a b (k.faults ∙ ap (λ xs. faults_from form k.steps (end_line b) xs ls) s.lines ∙ line_says form k.steps (end_line b) s.line s.more ls (Err r) s.rule
       ∙ ap (λ n. refusal Proof n r ∷ []) s.number)
 
   -- its step breaks an own rule
-  pub own_broken : (asked told : Place) (ta tb : List ℕ) (step : S) (r : Rule) → AtStep form stands queries asked told step a ta b tb
-      → ((ps : List S) → stands ps → Some r ≡ first_rule (form.faults ps step)) → Refused Proof told.line r ≡ verdict_by form a b
-  own_broken asked told ta tb step r k f = let first = first_some r (form.faults k.steps step) (f k.steps k.behind) in
-      refused_first form Proof told.line r _ a b (k.faults ∙ ap (λ rs. refusals Proof told.line rs ++ step_matches form (assumed (filter_map form.event k.steps)) told.line (form.event step) (later asked ta)
-      ++ faults_from form (k.steps ++ step ∷ []) (end_line b) (later told tb) (drop (step_partners form (form.event step) (later asked ta)) (later asked ta))) first.is)
+  pub own_broken : (interaction proof : Place) (ta tb : List ℕ) (step : S) (r : Rule) → AtStep form stands (at queries interaction proof) step a ta b tb
+      → ((ps : List S) → stands ps → Some r ≡ first_rule (form.faults ps step)) → Refused Proof proof.line r ≡ verdict_by form a b
+  own_broken interaction proof ta tb step r k f = let first = first_some r (form.faults k.steps step) (f k.steps k.behind) in
+      refused_first form Proof proof.line r _ a b (k.faults ∙ ap (λ rs. refusals Proof proof.line rs ++ step_matches form (assumed (filter_map form.event k.steps)) proof.line (form.event step) (later interaction ta)
+      ++ faults_from form (k.steps ++ step ∷ []) (end_line b) (later proof tb) (drop (step_partners form (form.event step) (later interaction ta)) (later interaction ta))) first.is)
 
   -- it breaks none
   behind_matches : (ps : List S) (step : S) (number : ℕ) (ls : List Line) (o : Option Event) → form.event step ≡ o
@@ -182,79 +182,79 @@ module _ {S : Type 0} (form : ProofForm S) (stands : List S → Type 0) (queries
       pushed : (x : Event) → form.event step ≡ Some x → filter_map form.event (ps ++ step ∷ []) ≡ filter_map form.event ps ++ x ∷ []
       pushed x e = rw (filter_map-append, e) refl
 
-  pub own_kept : (stands_after : List S → Type 0) (asked told : Place) (ta tb : List ℕ) (step : S) → AtStep form stands queries asked told step a ta b tb
+  pub own_kept : (stands_after : List S → Type 0) (interaction proof : Place) (ta tb : List ℕ) (step : S) → AtStep form stands (at queries interaction proof) step a ta b tb
       → ((ps : List S) → stands ps → None ≡ first_rule (form.faults ps step)) → ((ps : List S) → stands ps → stands_after (ps ++ step ∷ []))
-      → AtEvent form stands_after queries asked told (form.event step) a ta b tb
-  own_kept stands_after asked told ta tb step k f g =
-      let ls = later asked ta in
-      let rest = faults_from form (k.steps ++ step ∷ []) (end_line b) (later told tb) (drop (step_partners form (form.event step) ls) ls) in record {
+      → AtEvent form stands_after (at queries interaction proof) (form.event step) a ta b tb
+  own_kept stands_after interaction proof ta tb step k f g =
+      let ls = later interaction ta in
+      let rest = faults_from form (k.steps ++ step ∷ []) (end_line b) (later proof tb) (drop (step_partners form (form.event step) ls) ls) in record {
         steps = k.steps ++ step ∷ [];
         behind = g k.steps k.behind;
-        faults = k.faults ∙ ap (λ rs. refusals Proof told.line rs ++ step_matches form (assumed (filter_map form.event k.steps)) told.line (form.event step) ls ++ rest) (first_none (form.faults k.steps step) (f k.steps k.behind))
-            ∙ ap (λ ms. ms ++ rest) (behind_matches k.steps step told.line ls (form.event step) refl);
+        faults = k.faults ∙ ap (λ rs. refusals Proof proof.line rs ++ step_matches form (assumed (filter_map form.event k.steps)) proof.line (form.event step) ls ++ rest) (first_none (form.faults k.steps step) (f k.steps k.behind))
+            ∙ ap (λ ms. ms ++ rest) (behind_matches k.steps step proof.line ls (form.event step) refl);
         count = k.count;
         last = k.last;
-        asked_cut = k.asked_cut;
-        told_cut = k.told_cut;
+        interaction_cut = k.interaction_cut;
+        proof_cut = k.proof_cut;
       }
 
   -- ---- The event of a line and its partner
 
   -- the step is no event
-  pub no_event : (asked told : Place) (ta tb : List ℕ) → AtEvent form stands queries asked told None a ta b tb → Checking form stands queries asked told a ta b tb
-  no_event asked told ta tb k = record {
+  pub no_event : (interaction proof : Place) (ta tb : List ℕ) → AtEvent form stands (at queries interaction proof) None a ta b tb → Checking form stands (at queries interaction proof) a ta b tb
+  no_event interaction proof ta tb k = record {
     steps = k.steps;
     behind = k.behind;
     faults = k.faults;
     count = let c = k.count in omega (arith, c);
     last = k.last;
-    asked_cut = k.asked_cut;
-    told_cut = k.told_cut;
+    interaction_cut = k.interaction_cut;
+    proof_cut = k.proof_cut;
   }
 
   -- what the event breaks with the line that comes next, and what comes behind it
-  partner_is : (asked told : Place) (ta tb : List ℕ) (e : Event) (line : Line) (more : List Line) (v : Result Event Rule) (k : AtEvent form stands queries asked told (Some e) a ta b tb)
-      → later asked ta ≡ line ∷ more → value_of icnf_line line ≡ v
-      → pair_refusals form a b ≡ refusals Interaction line.number (partner_rules (assumed (filter_map form.event k.steps)) e v) ++ faults_from form k.steps (end_line b) (later told tb) more
-  partner_is asked told ta tb e line more v k l h = k.faults
-      ∙ ap (λ ls. match_faults (assumed (filter_map form.event k.steps)) told.line e ls ++ faults_from form k.steps (end_line b) (later told tb) (drop (partner_count e ls) ls)) l
-      ∙ ap (λ rs. rs ++ faults_from form k.steps (end_line b) (later told tb) more) (partner_says (assumed (filter_map form.event k.steps)) told.line e line more v h)
+  partner_is : (interaction proof : Place) (ta tb : List ℕ) (e : Event) (line : Line) (more : List Line) (v : Result Event Rule) (k : AtEvent form stands (at queries interaction proof) (Some e) a ta b tb)
+      → later interaction ta ≡ line ∷ more → value_of icnf_line line ≡ v
+      → pair_refusals form a b ≡ refusals Interaction line.number (partner_rules (assumed (filter_map form.event k.steps)) e v) ++ faults_from form k.steps (end_line b) (later proof tb) more
+  partner_is interaction proof ta tb e line more v k l h = k.faults
+      ∙ ap (λ ls. match_faults (assumed (filter_map form.event k.steps)) proof.line e ls ++ faults_from form k.steps (end_line b) (later proof tb) (drop (partner_count e ls) ls)) l
+      ∙ ap (λ rs. rs ++ faults_from form k.steps (end_line b) (later proof tb) more) (partner_says (assumed (filter_map form.event k.steps)) proof.line e line more v h)
 
   -- the partner agrees
-  pub partner_agrees : (qs : List ℕ) (p q told : Place) (ta ua tb : List ℕ) (e : Event) (n : ℕ) → AtEvent form stands queries p told (Some e) a ta b tb
-      → ((ps : List S) → stands ps → qs ≡ assumed (filter_map form.event ps)) → Meets e qs None p ta q ua → n ≡ queries + query_count (Some e) → Checking form stands n q told a ua b tb
-  partner_agrees qs p q told ta ua tb e n k same m c = let s = m.says in let more = faults_from form k.steps (end_line b) (later told tb) (later q ua) in record {
+  pub partner_agrees : (qs : List ℕ) (p q proof : Place) (ta ua tb : List ℕ) (e : Event) (n : ℕ) → AtEvent form stands (at queries p proof) (Some e) a ta b tb
+      → ((ps : List S) → stands ps → qs ≡ assumed (filter_map form.event ps)) → Meets e qs None p ta q ua → n ≡ queries + query_count (Some e) → Checking form stands (at n q proof) a ua b tb
+  partner_agrees qs p q proof ta ua tb e n k same m c = let s = m.says in let more = faults_from form k.steps (end_line b) (later proof tb) (later q ua) in record {
     steps = k.steps;
     behind = k.behind;
-    faults = partner_is p told ta tb e s.line (later q ua) (Ok m.partner) k s.lines s.value
+    faults = partner_is p proof ta tb e s.line (later q ua) (Ok m.partner) k s.lines s.value
         ∙ ap (λ xs. refusals Interaction s.line.number (pair_faults xs e m.partner) ++ more) (sym (same k.steps k.behind))
         ∙ ap (λ rs. refusals Interaction s.line.number rs ++ more) (got_none (pair_faults qs e m.partner) m.rule);
     count = let d = k.count in omega (arith, c, d);
     last = k.last;
-    asked_cut = cut_behind icnf_line s.line m.partner p q ta ua s.lines s.value s.cut k.asked_cut;
-    told_cut = k.told_cut;
+    interaction_cut = cut_behind icnf_line s.line m.partner p q ta ua s.lines s.value s.cut k.interaction_cut;
+    proof_cut = k.proof_cut;
   }
 
   -- it breaks a rule as a partner
-  pub partner_differs : (qs : List ℕ) (p q told : Place) (ta ua tb : List ℕ) (e : Event) (r : Rule) → AtEvent form stands queries p told (Some e) a ta b tb
+  pub partner_differs : (qs : List ℕ) (p q proof : Place) (ta ua tb : List ℕ) (e : Event) (r : Rule) → AtEvent form stands (at queries p proof) (Some e) a ta b tb
       → ((ps : List S) → stands ps → qs ≡ assumed (filter_map form.event ps)) → Meets e qs (Some r) p ta q ua → Refused Interaction q.line r ≡ verdict_by form a b
-  partner_differs qs p q told ta ua tb e r k same m = let s = m.says in let more = faults_from form k.steps (end_line b) (later told tb) (later q ua) in
+  partner_differs qs p q proof ta ua tb e r k same m = let s = m.says in let more = faults_from form k.steps (end_line b) (later proof tb) (later q ua) in
       let first = got_some r (pair_faults qs e m.partner) m.rule in
-      refused_first form Interaction q.line r _ a b (partner_is p told ta tb e s.line (later q ua) (Ok m.partner) k s.lines s.value
+      refused_first form Interaction q.line r _ a b (partner_is p proof ta tb e s.line (later q ua) (Ok m.partner) k s.lines s.value
       ∙ ap (λ xs. refusals Interaction s.line.number (pair_faults xs e m.partner) ++ more) (sym (same k.steps k.behind))
       ∙ ap (λ rs. refusals Interaction s.line.number rs ++ more) first.is ∙ ap (λ n. refusals Interaction n (r ∷ first.more) ++ more) s.number)
 
   -- it breaks a rule of syntax
-  pub partner_broken : (p q told : Place) (ta tb : List ℕ) (e : Event) (r : Rule) → AtEvent form stands queries p told (Some e) a ta b tb
+  pub partner_broken : (p q proof : Place) (ta tb : List ℕ) (e : Event) (r : Rule) → AtEvent form stands (at queries p proof) (Some e) a ta b tb
       → Breaks icnf_line r p ta q ⊎ BehindCut r p ta → Refused Interaction q.line r ≡ verdict_by form a b
-  partner_broken p q told ta tb e r k (inr c) = absurd (not_behind_cut r p ta k.asked_cut c)
-  partner_broken p q told ta tb e r k (inl s) = refused_first form Interaction q.line r _ a b (partner_is p told ta tb e s.line s.more (Err r) k s.lines s.rule
-      ∙ ap (λ n. refusal Interaction n r ∷ faults_from form k.steps (end_line b) (later told tb) s.more) s.number)
+  partner_broken p q proof ta tb e r k (inr c) = absurd (not_behind_cut r p ta k.interaction_cut c)
+  partner_broken p q proof ta tb e r k (inl s) = refused_first form Interaction q.line r _ a b (partner_is p proof ta tb e s.line s.more (Err r) k s.lines s.rule
+      ∙ ap (λ n. refusal Interaction n r ∷ faults_from form k.steps (end_line b) (later proof tb) s.more) s.number)
 
   -- no line is left
-  pub partner_missing : (p q told : Place) (ta ua tb : List ℕ) (e : Event) → AtEvent form stands queries p told (Some e) a ta b tb → AtEnd p ta q ua → Refused Proof told.line rules.Ended ≡ verdict_by form a b
-  partner_missing p q told ta ua tb e k end = refused_first form Proof told.line rules.Ended _ a b (k.faults
-      ∙ ap (λ ls. match_faults (assumed (filter_map form.event k.steps)) told.line e ls ++ faults_from form k.steps (end_line b) (later told tb) (drop (partner_count e ls) ls)) end.none)
+  pub partner_missing : (p q proof : Place) (ta ua tb : List ℕ) (e : Event) → AtEvent form stands (at queries p proof) (Some e) a ta b tb → AtEnd p ta q ua → Refused Proof proof.line rules.Ended ≡ verdict_by form a b
+  partner_missing p q proof ta ua tb e k end = refused_first form Proof proof.line rules.Ended _ a b (k.faults
+      ∙ ap (λ ls. match_faults (assumed (filter_map form.event k.steps)) proof.line e ls ++ faults_from form k.steps (end_line b) (later proof tb) (drop (partner_count e ls) ls)) end.none)
 
   -- ---- The proof's end
 
@@ -262,28 +262,28 @@ module _ {S : Type 0} (form : ProofForm S) (stands : List S → Type 0) (queries
   unfolding faults_from
   ended ps end ls = refl
 
-  pub proof_ended : (asked p q : Place) (ta tb tc : List ℕ) → Checking form stands queries asked p a ta b tb → AtEnd p tb q tc → AtProofEnd form stands queries asked q.line a ta b tc
-  proof_ended asked p q ta tb tc k end = let c = k.count in let none : queries_in form (later p tb) ≡ 0 = ap (queries_in form) end.none ∙ no_queries form in record {
+  pub proof_ended : (interaction p q : Place) (ta tb tc : List ℕ) → Checking form stands (at queries interaction p) a ta b tb → AtEnd p tb q tc → AtProofEnd form stands (at queries interaction q) a ta b tc
+  proof_ended interaction p q ta tb tc k end = let c = k.count in let none : queries_in form (later p tb) ≡ 0 = ap (queries_in form) end.none ∙ no_queries form in record {
     steps = k.steps;
     behind = k.behind;
-    faults = k.faults ∙ ap (λ xs. faults_from form k.steps (end_line b) xs (later asked ta)) end.none ∙ ended k.steps (end_line b) (later asked ta)
-        ∙ ap (λ n. unfinished (filter_map form.event k.steps) n ++ surplus (later asked ta)) (sym (end.line ∙ k.last));
+    faults = k.faults ∙ ap (λ xs. faults_from form k.steps (end_line b) xs (later interaction ta)) end.none ∙ ended k.steps (end_line b) (later interaction ta)
+        ∙ ap (λ n. unfinished (filter_map form.event k.steps) n ++ surplus (later interaction ta)) (sym (end.line ∙ k.last));
     count = omega (arith, c, none);
-    asked_cut = k.asked_cut;
+    interaction_cut = k.interaction_cut;
   }
 
   -- a query is open
-  pub query_open : (asked : Place) (line : ℕ) (ta tb : List ℕ) (r : Rule) → AtProofEnd form stands queries asked line a ta b tb
-      → ((ps : List S) → stands ps → Some r ≡ first_rule (broken_unless (is_idle (phase (filter_map form.event ps))) rules.Unfinished)) → Refused Proof line r ≡ verdict_by form a b
-  query_open asked line ta tb r k f = let first = first_some r (broken_unless (is_idle (phase (filter_map form.event k.steps))) rules.Unfinished) (f k.steps k.behind) in
-      refused_first form Proof line r _ a b (k.faults ∙ ap (λ rs. refusals Proof line rs ++ surplus (later asked ta)) first.is)
+  pub query_open : (interaction proof : Place) (ta tb : List ℕ) (r : Rule) → AtProofEnd form stands (at queries interaction proof) a ta b tb
+      → ((ps : List S) → stands ps → Some r ≡ first_rule (broken_unless (is_idle (phase (filter_map form.event ps))) rules.Unfinished)) → Refused Proof proof.line r ≡ verdict_by form a b
+  query_open interaction proof ta tb r k f = let first = first_some r (broken_unless (is_idle (phase (filter_map form.event k.steps))) rules.Unfinished) (f k.steps k.behind) in
+      refused_first form Proof proof.line r _ a b (k.faults ∙ ap (λ rs. refusals Proof proof.line rs ++ surplus (later interaction ta)) first.is)
 
-  pub query_closed : (asked : Place) (line : ℕ) (ta tb : List ℕ) → AtProofEnd form stands queries asked line a ta b tb
-      → ((ps : List S) → stands ps → None ≡ first_rule (broken_unless (is_idle (phase (filter_map form.event ps))) rules.Unfinished)) → AtSurplus form queries asked a ta b tb
-  query_closed asked line ta tb k f = record {
-    faults = k.faults ∙ ap (λ rs. refusals Proof line rs ++ surplus (later asked ta)) (first_none (broken_unless (is_idle (phase (filter_map form.event k.steps))) rules.Unfinished) (f k.steps k.behind));
+  pub query_closed : (interaction proof : Place) (ta tb : List ℕ) → AtProofEnd form stands (at queries interaction proof) a ta b tb
+      → ((ps : List S) → stands ps → None ≡ first_rule (broken_unless (is_idle (phase (filter_map form.event ps))) rules.Unfinished)) → AtSurplus form (at queries interaction proof) a ta b tb
+  query_closed interaction proof ta tb k f = record {
+    faults = k.faults ∙ ap (λ rs. refusals Proof proof.line rs ++ surplus (later interaction ta)) (first_none (broken_unless (is_idle (phase (filter_map form.event k.steps))) rules.Unfinished) (f k.steps k.behind));
     count = k.count;
-    asked_cut = k.asked_cut;
+    interaction_cut = k.interaction_cut;
   }
 
   -- a line of the interaction is left
@@ -291,20 +291,20 @@ module _ {S : Type 0} (form : ProofForm S) (stands : List S → Type 0) (queries
   surplus_rule true h e = rw e refl
   surplus_rule false h e = refl
 
-  pub line_left : (p q : Place) (ta ua tb : List ℕ) → AtSurplus form queries p a ta b tb → InLine p ta q ua → Refused Interaction q.line rules.Surplus ≡ verdict_by form a b
-  line_left p q ta ua tb k l = let line = present q ua in refused_first form Interaction q.line rules.Surplus [] a b (k.faults ∙ ap surplus l.lines
+  pub line_left : (p q proof : Place) (ta ua tb : List ℕ) → AtSurplus form (at queries p proof) a ta b tb → InLine p ta q ua → Refused Interaction q.line rules.Surplus ≡ verdict_by form a b
+  line_left p q proof ta ua tb k l = let line = present q ua in refused_first form Interaction q.line rules.Surplus [] a b (k.faults ∙ ap surplus l.lines
       ∙ ap (λ r. refusal Interaction line.number r ∷ []) (surplus_rule line.cut (has_content line.words) l.content) ∙ ap (λ n. refusal Interaction n rules.Surplus ∷ []) l.number)
 
   -- only the line is left that the bound cuts before its content
-  pub cut_left : (p q : Place) (ta ua tb : List ℕ) → AtSurplus form queries p a ta b tb → AtBound p ta q ua → Refused Interaction q.line rules.Length ≡ verdict_by form a b
-  cut_left p q ta ua tb k l = by_lines (later p ta) refl l.only
+  pub cut_left : (p q proof : Place) (ta ua tb : List ℕ) → AtSurplus form (at queries p proof) a ta b tb → AtBound p ta q ua → Refused Interaction q.line rules.Length ≡ verdict_by form a b
+  cut_left p q proof ta ua tb k l = by_lines (later p ta) refl l.only
     where
       by_lines : (ls : List Line) → later p ta ≡ ls → OnlyCut ls (last_line p ta) → Refused Interaction q.line rules.Length ≡ verdict_by form a b
-      by_lines [] e o = absurd (subst EndsCut e (k.asked_cut.comes l.cut))
+      by_lines [] e o = absurd (subst EndsCut e (k.interaction_cut.comes l.cut))
       by_lines (line ∷ more) e o = refused_first form Interaction q.line rules.Length [] a b (k.faults ∙ ap surplus e
           ∙ ap (λ c. refusal Interaction line.number (if c && not (has_content line.words) then rules.Length else rules.Surplus) ∷ []) o.1
           ∙ ap (λ c. refusal Interaction line.number (if not c then rules.Length else rules.Surplus) ∷ []) o.2
           ∙ ap (λ n. refusal Interaction n rules.Length ∷ []) (o.3 ∙ sym l.line))
 
-  pub none_left : (p q : Place) (ta ua tb : List ℕ) → AtSurplus form queries p a ta b tb → AtEnd p ta q ua → Accepted queries ≡ verdict_by form a b
-  none_left p q ta ua tb k l = accepted form queries a b (k.faults ∙ ap surplus l.none) k.count
+  pub none_left : (p q proof : Place) (ta ua tb : List ℕ) → AtSurplus form (at queries p proof) a ta b tb → AtEnd p ta q ua → Accepted queries ≡ verdict_by form a b
+  none_left p q proof ta ua tb k l = accepted form queries a b (k.faults ∙ ap surplus l.none) k.count

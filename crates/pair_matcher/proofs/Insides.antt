@@ -11,14 +11,14 @@ use Rattle.lits.proofs.Literal.{var-neg}
 use Rattle.lits.proofs.Ascending.{set_of_at}
 use Rattle.clause_store.specs.Clauses.{Held, Store, new_clause}
 use Rattle.session_events.specs.State.{State, StandsFor, start, AreReserved, with_reserved}
-use Rattle.side_laws.specs.Kept.{kept, kept_of_held, clauses_of_store, AreWithin}
+use Rattle.side_laws.specs.ClauseStates.{kept, kept_of_held, clauses_of_store, AreWithin}
 use Rattle.side_laws.proofs.Maps.{get-kept_by, empty-kept_by}
 use Rattle.side_laws.proofs.Stores.{store_added, within-change, within-empty}
 use Rattle.side_laws.specs.Ids.{HoldsIds}
-use Rattle.pair_matcher.specs.Sides.{AreAfterIds}
+use Rattle.pair_matcher.specs.Sides.{AreAfterIds, holding_ids}
 use Rattle.propagation.specs.Engine.{EngineView, level_after, no_engine, Grows}
 use Rattle.propagation.proofs.Trail.{level_after-append}
-use Rattle.pair_matcher.specs.Inside.{IsInside, AreBelow, IsBetweenLines}
+use Rattle.pair_matcher.specs.Inside.{HasHintRoom, AreBelow, IsBetweenLines}
 
 -- ---- Lists of literals
 
@@ -45,7 +45,7 @@ at_below ls v l h m = All-contains (λ x. var x ≤ v) ls l h m
 
 -- ---- Inside a side
 
-module _ (m : Store) (s : State) (v : ℕ) (h : IsInside m s v) where
+module _ (m : Store) (s : State) (v : ℕ) (h : HasHintRoom m s v) where
   pub reserved_within : (ls : List ℕ) → AreReserved s ls → (l : ℕ) → Contains ls l → var l ≤ v
   reserved_within ls r l k = le_trans (at_below ls s.reserved l r k) h.events
 
@@ -55,24 +55,24 @@ module _ (m : Store) (s : State) (v : ℕ) (h : IsInside m s v) where
   pub store_within : (id l : ℕ) (held : Held) → finmap.get m id ≡ Some held → Contains held.literals l → var l ≤ v
   store_within id l held e k = h.clauses id (kept_of_held held) (get-kept_by kept_of_held m id ∙ ap (option_map kept_of_held) e) l k
 
-  pub inside-added : (n : Store) (t : State) (id slot : ℕ) (c : List ℕ) → AreReserved s c → n ≡ finmap.insert m id (new_clause c slot) → t.reserved ≡ s.reserved → IsInside n t v
+  pub inside-added : (n : Store) (t : State) (id slot : ℕ) (c : List ℕ) → AreReserved s c → n ≡ finmap.insert m id (new_clause c slot) → t.reserved ≡ s.reserved → HasHintRoom n t v
   inside-added n t id slot c r e same = record {
     clauses = within-change (clauses_of_store m) (clauses_of_store n) id v (Some (kept true (set_of c))) (store_added m n id slot c e)
         (λ k f l x. reserved_within c r l (set_of_at c l (subst (λ z. Contains z.literals l) (sym (same_Some _ _ f)) x))) h.clauses;
     events = subst (λ z. z ≤ v) (sym same) h.events;
   }
 
-  pub inside-turned : (n : Store) → ((w : ℕ) → AreWithin (clauses_of_store m) w → AreWithin (clauses_of_store n) w) → IsInside n s v
+  pub inside-turned : (n : Store) → ((w : ℕ) → AreWithin (clauses_of_store m) w → AreWithin (clauses_of_store n) w) → HasHintRoom n s v
   inside-turned n within = record { clauses = within v h.clauses; events = h.events }
 
-  pub inside-events : (t : State) → t.reserved ≡ s.reserved → IsInside m t v
+  pub inside-events : (t : State) → t.reserved ≡ s.reserved → HasHintRoom m t v
   inside-events t same = record { clauses = h.clauses; events = subst (λ z. z ≤ v) (sym same) h.events }
 
-  pub inside-more : (w : ℕ) → v ≤ w → IsInside m s w
+  pub inside-more : (w : ℕ) → v ≤ w → HasHintRoom m s w
   inside-more w le = record { clauses = λ id k e l x. le_trans (h.clauses id k e l x) le; events = le_trans h.events le }
 
 -- room for one more variable in both
-pub inside-reserved : (m : Store) (s t : State) (v w vars : ℕ) → IsInside m s v → w ≡ max v vars → t ≡ with_reserved s vars → IsInside m t w
+pub inside-reserved : (m : Store) (s t : State) (v w vars : ℕ) → HasHintRoom m s v → w ≡ max v vars → t ≡ with_reserved s vars → HasHintRoom m t w
 inside-reserved m s t v w vars h e f = let g : t.reserved ≡ max s.reserved vars = ap (λ z. z.reserved) f in let k = h.events in record {
   clauses = λ id x is l n. let b = h.clauses id x is l n in omega arith;
   events = omega arith;
@@ -102,13 +102,13 @@ between-new e s is same = let g : s.reserved ≡ 0 = ap (λ z. z.reserved) same 
   level = ap (λ z. level_after z.trail) is;
 }
 
-pub inside-new : (m : Store) (s : State) (v : ℕ) → m ≡ finmap.empty → s ≡ start → IsInside m s v
+pub inside-new : (m : Store) (s : State) (v : ℕ) → m ≡ finmap.empty → s ≡ start → HasHintRoom m s v
 inside-new m s v e f = let g : s.reserved ≡ 0 = ap (λ z. z.reserved) f in record {
   clauses = subst (λ z. AreWithin (clauses_of_store z) v) (sym e) (within-empty v);
   events = omega arith;
 }
 
-pub stands-new : (m : Store) (s : State) → m ≡ finmap.empty → StandsFor s [] → AreAfterIds (clauses_of_store m) s []
+pub stands-new : (m : Store) (s : State) → m ≡ finmap.empty → StandsFor s [] → AreAfterIds (holding_ids (clauses_of_store m) s) []
 stands-new m s e h = record {
   clauses = subst (λ z. HoldsIds (clauses_of_store z) []) (sym e) (record {
     standings = λ id. rw (empty-kept_by kept_of_held id) refl;

@@ -25,11 +25,11 @@ use Rattle.hint_check.specs.Hints.{active_at, end_of}
 use Rattle.hint_check.specs.declared.HintEnd.{HintEnd}
 use Rattle.hint_check.specs.declared.HintEnd.TheVariants.{Closed, Fails}
 use Rattle.session_events.specs.State.{State, StandsFor, kind_of, order_rules, model_rules, core_rules}
-use Rattle.side_laws.specs.Kept.{Clauses, clauses_of_store}
+use Rattle.side_laws.specs.ClauseStates.{Clauses, clauses_of_store}
 use Rattle.side_laws.specs.Ids.{HoldsIds}
 use Rattle.side_laws.proofs.Ids.{holds_given, holds_silent, hints_over_kept}
 use Rattle.side_laws.proofs.Stores.{absent-store, store_added, active_in-store}
-use Rattle.pair_matcher.specs.Sides.{first_rule, AreAfterIds, JudgedId}
+use Rattle.pair_matcher.specs.Sides.{first_rule, AreAfterIds, JudgedId, holding_ids}
 use Rattle.pair_matcher.specs.Turns.{Turned}
 use Rattle.pair_matcher.proofs.Rules.{first-skip, first-here, first-broken, first-kept, first-unkept, order_is, model_is, core_is}
 
@@ -46,59 +46,59 @@ abbrev pub TakesEvent : State → State → Event → Type 0
 TakesEvent s t e = (es : List Event) → StandsFor s es → StandsFor t (es ++ e ∷ [])
 
 module _ (m : Clauses) (s t : State) (step : LStep) (e : Event) (is : id_event_of step ≡ Some e) (gives : given_clause step ≡ None) (names : mentions step ≡ []) (takes : TakesEvent s t e) where
-  after_event : (ps : List LStep) → AreAfterIds m s ps → AreAfterIds m t (ps ++ step ∷ [])
+  after_event : (ps : List LStep) → AreAfterIds (holding_ids m s) ps → AreAfterIds (holding_ids m t) (ps ++ step ∷ [])
   after_event ps a = record {
     clauses = holds_silent m ps step gives names a.clauses;
     events = subst (StandsFor t) (sym (events-some ps step e is)) (takes (id_events_of ps) a.events);
   }
 
 -- a rule is the answer
-stops : (m : Clauses) (s : State) (n : Clauses) (t : State) (step : LStep) (r : Rule) → ((ps : List LStep) → AreAfterIds m s ps → first_rule (own_id_faults ps step) ≡ Some r) → JudgedId m s n t step (Some r)
+stops : (m : Clauses) (s : State) (n : Clauses) (t : State) (step : LStep) (r : Rule) → ((ps : List LStep) → AreAfterIds (holding_ids m s) ps → first_rule (own_id_faults ps step) ≡ Some r) → JudgedId (holding_ids m s) (holding_ids n t) step (Some r)
 stops m s n t step r h = record { rule = λ ps a. sym (h ps a); stands = tt }
 
-goes_on : (m : Clauses) (s : State) (n : Clauses) (t : State) (step : LStep) → ((ps : List LStep) → AreAfterIds m s ps → first_rule (own_id_faults ps step) ≡ None)
-    → ((ps : List LStep) → AreAfterIds m s ps → AreAfterIds n t (ps ++ step ∷ [])) → JudgedId m s n t step None
+goes_on : (m : Clauses) (s : State) (n : Clauses) (t : State) (step : LStep) → ((ps : List LStep) → AreAfterIds (holding_ids m s) ps → first_rule (own_id_faults ps step) ≡ None)
+    → ((ps : List LStep) → AreAfterIds (holding_ids m s) ps → AreAfterIds (holding_ids n t) (ps ++ step ∷ [])) → JudgedId (holding_ids m s) (holding_ids n t) step None
 goes_on m s n t step h k = record { rule = λ ps a. sym (h ps a); stands = k }
 
 -- ---- Queries, statuses and models
 
 module _ (m : Clauses) (s t : State) (answer : Option Rule) where
   module _ (c : List ℕ) (order : answer ≡ slice_get (order_rules s (kind_of (events.Query c))) 0) where
-    pub query_order : (r : Rule) → answer ≡ Some r → JudgedId m s m t (lsteps.Query c) (Some r)
+    pub query_order : (r : Rule) → answer ≡ Some r → JudgedId (holding_ids m s) (holding_ids m t) (lsteps.Query c) (Some r)
     unfolding own_id_faults
     query_order r is = stops m s m t (lsteps.Query c) r (λ ps a. order_is s (id_events_of ps) a.events answer (events.Query c) order ∙ is)
 
-    pub query_done : answer ≡ None → TakesEvent s t (events.Query c) → JudgedId m s m t (lsteps.Query c) None
+    pub query_done : answer ≡ None → TakesEvent s t (events.Query c) → JudgedId (holding_ids m s) (holding_ids m t) (lsteps.Query c) None
     unfolding own_id_faults
     query_done is takes = goes_on m s m t (lsteps.Query c) (λ ps a. order_is s (id_events_of ps) a.events answer (events.Query c) order ∙ is)
         (after_event m s t (lsteps.Query c) (events.Query c) refl refl refl takes)
 
   module _ (w : StatusWord) (order : answer ≡ slice_get (order_rules s (kind_of (events.Status w))) 0) where
-    pub status_order : (r : Rule) → answer ≡ Some r → JudgedId m s m t (lsteps.Status w) (Some r)
+    pub status_order : (r : Rule) → answer ≡ Some r → JudgedId (holding_ids m s) (holding_ids m t) (lsteps.Status w) (Some r)
     unfolding own_id_faults
     status_order r is = stops m s m t (lsteps.Status w) r (λ ps a. order_is s (id_events_of ps) a.events answer (events.Status w) order ∙ is)
 
-    pub status_done : answer ≡ None → TakesEvent s t (events.Status w) → JudgedId m s m t (lsteps.Status w) None
+    pub status_done : answer ≡ None → TakesEvent s t (events.Status w) → JudgedId (holding_ids m s) (holding_ids m t) (lsteps.Status w) None
     unfolding own_id_faults
     status_done is takes = goes_on m s m t (lsteps.Status w) (λ ps a. order_is s (id_events_of ps) a.events answer (events.Status w) order ∙ is)
         (after_event m s t (lsteps.Status w) (events.Status w) refl refl refl takes)
 
   module _ (c : List ℕ) (order : answer ≡ slice_get (order_rules s (kind_of (events.Model c))) 0) where
-    pub model_order : (r : Rule) → answer ≡ Some r → JudgedId m s m t (lsteps.Model c) (Some r)
+    pub model_order : (r : Rule) → answer ≡ Some r → JudgedId (holding_ids m s) (holding_ids m t) (lsteps.Model c) (Some r)
     unfolding own_id_faults
     model_order r is = stops m s m t (lsteps.Model c) r (λ ps a. first-here (order_faults (id_events_of ps) (events.Model c)) (model_faults (id_events_of ps) c) r
         (order_is s (id_events_of ps) a.events answer (events.Model c) order ∙ is))
 
     module _ (kept : answer ≡ None) (own_answer : Option Rule) (model : own_answer ≡ slice_get (model_rules s c) 0) where
-      model_rest : (ps : List LStep) → AreAfterIds m s ps → first_rule (own_id_faults ps (lsteps.Model c)) ≡ own_answer
+      model_rest : (ps : List LStep) → AreAfterIds (holding_ids m s) ps → first_rule (own_id_faults ps (lsteps.Model c)) ≡ own_answer
       unfolding own_id_faults
       model_rest ps a = first-skip (order_faults (id_events_of ps) (events.Model c)) (model_faults (id_events_of ps) c) (order_is s (id_events_of ps) a.events answer (events.Model c) order ∙ kept)
           ∙ model_is s (id_events_of ps) a.events own_answer c model
 
-      pub model_broken : (r : Rule) → own_answer ≡ Some r → JudgedId m s m t (lsteps.Model c) (Some r)
+      pub model_broken : (r : Rule) → own_answer ≡ Some r → JudgedId (holding_ids m s) (holding_ids m t) (lsteps.Model c) (Some r)
       model_broken r is = stops m s m t (lsteps.Model c) r (λ ps a. model_rest ps a ∙ is)
 
-      pub model_done : own_answer ≡ None → TakesEvent s t (events.Model c) → JudgedId m s m t (lsteps.Model c) None
+      pub model_done : own_answer ≡ None → TakesEvent s t (events.Model c) → JudgedId (holding_ids m s) (holding_ids m t) (lsteps.Model c) None
       model_done is takes = goes_on m s m t (lsteps.Model c) (λ ps a. model_rest ps a ∙ is) (after_event m s t (lsteps.Model c) (events.Model c) refl refl refl takes)
 
 -- ---- Hints
@@ -124,14 +124,14 @@ module _ (m : Store) (ps : List LStep) (h : HoldsIds (clauses_of_store m) ps) (l
 -- ---- Cores
 
 module _ (m : Store) (s t : State) (answer : Option Rule) (u hs : List ℕ) (order : answer ≡ slice_get (order_rules s (kind_of (events.Core u))) 0) where
-  pub core_order : (r : Rule) → answer ≡ Some r → JudgedId (clauses_of_store m) s (clauses_of_store m) t (lsteps.Core u hs) (Some r)
+  pub core_order : (r : Rule) → answer ≡ Some r → JudgedId (holding_ids (clauses_of_store m) s) (holding_ids (clauses_of_store m) t) (lsteps.Core u hs) (Some r)
   unfolding own_id_faults
   core_order r is = stops (clauses_of_store m) s (clauses_of_store m) t (lsteps.Core u hs) r (λ ps a.
       first-here (order_faults (id_events_of ps) (events.Core u) ++ hint_faults ps u hs) (core_faults (id_events_of ps) u) r
       (first-here (order_faults (id_events_of ps) (events.Core u)) (hint_faults ps u hs) r (order_is s (id_events_of ps) a.events answer (events.Core u) order ∙ is)))
 
   module _ (kept : answer ≡ None) (end : HintEnd) (run : end ≡ end_of (hints_fail (active_at m) u hs)) where
-    pub core_hint : (p : ℕ) → end ≡ Fails p → JudgedId (clauses_of_store m) s (clauses_of_store m) t (lsteps.Core u hs) (Some (rules.Hint p))
+    pub core_hint : (p : ℕ) → end ≡ Fails p → JudgedId (holding_ids (clauses_of_store m) s) (holding_ids (clauses_of_store m) t) (lsteps.Core u hs) (Some (rules.Hint p))
     unfolding own_id_faults
     core_hint p is = stops (clauses_of_store m) s (clauses_of_store m) t (lsteps.Core u hs) (rules.Hint p) (λ ps a.
         first-here (order_faults (id_events_of ps) (events.Core u) ++ hint_faults ps u hs) (core_faults (id_events_of ps) u) (rules.Hint p)
@@ -139,17 +139,17 @@ module _ (m : Store) (s t : State) (answer : Option Rule) (u hs : List ℕ) (ord
         ∙ hints_broken m ps a.clauses u hs end run p is))
 
     module _ (closed : end ≡ Closed) (own_answer : Option Rule) (core : own_answer ≡ slice_get (core_rules s u) 0) where
-      core_rest : (ps : List LStep) → AreAfterIds (clauses_of_store m) s ps → first_rule (own_id_faults ps (lsteps.Core u hs)) ≡ own_answer
+      core_rest : (ps : List LStep) → AreAfterIds (holding_ids (clauses_of_store m) s) ps → first_rule (own_id_faults ps (lsteps.Core u hs)) ≡ own_answer
       unfolding own_id_faults
       core_rest ps a = first-skip (order_faults (id_events_of ps) (events.Core u) ++ hint_faults ps u hs) (core_faults (id_events_of ps) u)
           (first-skip (order_faults (id_events_of ps) (events.Core u)) (hint_faults ps u hs) (order_is s (id_events_of ps) a.events answer (events.Core u) order ∙ kept)
           ∙ hints_closed m ps a.clauses u hs end run closed)
           ∙ core_is s (id_events_of ps) a.events own_answer u core
 
-      pub core_stranger : (r : Rule) → own_answer ≡ Some r → JudgedId (clauses_of_store m) s (clauses_of_store m) t (lsteps.Core u hs) (Some r)
+      pub core_stranger : (r : Rule) → own_answer ≡ Some r → JudgedId (holding_ids (clauses_of_store m) s) (holding_ids (clauses_of_store m) t) (lsteps.Core u hs) (Some r)
       core_stranger r is = stops (clauses_of_store m) s (clauses_of_store m) t (lsteps.Core u hs) r (λ ps a. core_rest ps a ∙ is)
 
-      pub core_done : own_answer ≡ None → TakesEvent s t (events.Core u) → JudgedId (clauses_of_store m) s (clauses_of_store m) t (lsteps.Core u hs) None
+      pub core_done : own_answer ≡ None → TakesEvent s t (events.Core u) → JudgedId (holding_ids (clauses_of_store m) s) (holding_ids (clauses_of_store m) t) (lsteps.Core u hs) None
       core_done is takes = goes_on (clauses_of_store m) s (clauses_of_store m) t (lsteps.Core u hs) (λ ps a. core_rest ps a ∙ is) (after_event (clauses_of_store m) s t (lsteps.Core u hs) (events.Core u) refl refl refl takes)
 
 -- ---- Inputs and lemmas
@@ -171,19 +171,19 @@ module _ (m : Store) (ps : List LStep) (h : HoldsIds (clauses_of_store m) ps) (i
 module _ (m n : Store) (s t : State) (id : ℕ) (c : List ℕ) where
   -- an input
   module _ (answer : Option Rule) (order : answer ≡ slice_get (order_rules s (kind_of (events.Input c))) 0) where
-    pub input_order : (r : Rule) → answer ≡ Some r → JudgedId (clauses_of_store m) s (clauses_of_store n) t (lsteps.Input id c) (Some r)
+    pub input_order : (r : Rule) → answer ≡ Some r → JudgedId (holding_ids (clauses_of_store m) s) (holding_ids (clauses_of_store n) t) (lsteps.Input id c) (Some r)
     unfolding own_id_faults
     input_order r is = stops (clauses_of_store m) s (clauses_of_store n) t (lsteps.Input id c) r (λ ps a.
         first-here (order_faults (id_events_of ps) (events.Input c)) (id_faults ps id) r (order_is s (id_events_of ps) a.events answer (events.Input c) order ∙ is))
 
-    pub input_taken : answer ≡ None → is_held m id ≡ true → JudgedId (clauses_of_store m) s (clauses_of_store n) t (lsteps.Input id c) (Some rules.IdTaken)
+    pub input_taken : answer ≡ None → is_held m id ≡ true → JudgedId (holding_ids (clauses_of_store m) s) (holding_ids (clauses_of_store n) t) (lsteps.Input id c) (Some rules.IdTaken)
     unfolding own_id_faults
     input_taken is taken = stops (clauses_of_store m) s (clauses_of_store n) t (lsteps.Input id c) rules.IdTaken (λ ps a.
         first-skip (order_faults (id_events_of ps) (events.Input c)) (id_faults ps id) (order_is s (id_events_of ps) a.events answer (events.Input c) order ∙ is)
         ∙ id_taken m ps a.clauses id taken)
 
     pub input_done : answer ≡ None → is_held m id ≡ false → (slot : ℕ) → n ≡ finmap.insert m id (new_clause c slot) → TakesEvent s t (events.Input c)
-        → JudgedId (clauses_of_store m) s (clauses_of_store n) t (lsteps.Input id c) None
+        → JudgedId (holding_ids (clauses_of_store m) s) (holding_ids (clauses_of_store n) t) (lsteps.Input id c) None
     unfolding own_id_faults
     input_done is free slot added takes = goes_on (clauses_of_store m) s (clauses_of_store n) t (lsteps.Input id c)
         (λ ps a. first-skip (order_faults (id_events_of ps) (events.Input c)) (id_faults ps id) (order_is s (id_events_of ps) a.events answer (events.Input c) order ∙ is) ∙ id_free m ps a.clauses id free)
@@ -194,18 +194,18 @@ module _ (m n : Store) (s t : State) (id : ℕ) (c : List ℕ) where
 
   -- a lemma
   module _ (hs : List ℕ) where
-    pub lemma_taken : is_held m id ≡ true → JudgedId (clauses_of_store m) s (clauses_of_store n) t (lsteps.Lemma id c hs) (Some rules.IdTaken)
+    pub lemma_taken : is_held m id ≡ true → JudgedId (holding_ids (clauses_of_store m) s) (holding_ids (clauses_of_store n) t) (lsteps.Lemma id c hs) (Some rules.IdTaken)
     unfolding own_id_faults
     lemma_taken taken = stops (clauses_of_store m) s (clauses_of_store n) t (lsteps.Lemma id c hs) rules.IdTaken (λ ps a.
         first-here (id_faults ps id) (hint_faults ps (map neg c) hs) rules.IdTaken (id_taken m ps a.clauses id taken))
 
     module _ (free : is_held m id ≡ false) (end : HintEnd) (run : end ≡ end_of (hints_fail (active_at m) (map neg c) hs)) where
-      pub lemma_hint : (p : ℕ) → end ≡ Fails p → JudgedId (clauses_of_store m) s (clauses_of_store n) t (lsteps.Lemma id c hs) (Some (rules.Hint p))
+      pub lemma_hint : (p : ℕ) → end ≡ Fails p → JudgedId (holding_ids (clauses_of_store m) s) (holding_ids (clauses_of_store n) t) (lsteps.Lemma id c hs) (Some (rules.Hint p))
       unfolding own_id_faults
       lemma_hint p is = stops (clauses_of_store m) s (clauses_of_store n) t (lsteps.Lemma id c hs) (rules.Hint p) (λ ps a.
           first-skip (id_faults ps id) (hint_faults ps (map neg c) hs) (id_free m ps a.clauses id free) ∙ hints_broken m ps a.clauses (map neg c) hs end run p is)
 
-      pub lemma_done : end ≡ Closed → (slot : ℕ) → n ≡ finmap.insert m id (new_clause c slot) → t ≡ s → JudgedId (clauses_of_store m) s (clauses_of_store n) t (lsteps.Lemma id c hs) None
+      pub lemma_done : end ≡ Closed → (slot : ℕ) → n ≡ finmap.insert m id (new_clause c slot) → t ≡ s → JudgedId (holding_ids (clauses_of_store m) s) (holding_ids (clauses_of_store n) t) (lsteps.Lemma id c hs) None
       unfolding own_id_faults
       lemma_done is slot added same = goes_on (clauses_of_store m) s (clauses_of_store n) t (lsteps.Lemma id c hs)
           (λ ps a. first-skip (id_faults ps id) (hint_faults ps (map neg c) hs) (id_free m ps a.clauses id free) ∙ hints_closed m ps a.clauses (map neg c) hs end run is)
@@ -219,11 +219,11 @@ module _ (m n : Store) (s t : State) (id : ℕ) (c : List ℕ) where
 module _ (step : List ℕ → LStep) (is_so : Standing → Bool) (left : Standing) (rule : ℕ → Rule)
     (faults : (ps : List LStep) (is : List ℕ) → own_id_faults ps (step is) ≡ broken_at rule (first_not is_so left (flat_map mentions ps) 1 is))
     (silent : (is : List ℕ) → id_event_of (step is) ≡ None) (m n : Store) (s : State) (is : List ℕ) where
-  named_stop : (place : ℕ) → Turned step is_so left m n is (Some place) → JudgedId (clauses_of_store m) s (clauses_of_store n) s (step is) (Some (rule place))
+  named_stop : (place : ℕ) → Turned step is_so left m n is (Some place) → JudgedId (holding_ids (clauses_of_store m) s) (holding_ids (clauses_of_store n) s) (step is) (Some (rule place))
   named_stop place t = stops (clauses_of_store m) s (clauses_of_store n) s (step is) (rule place) (λ ps a.
       ap first_rule (faults ps is) ∙ first-broken rule (first_not is_so left (flat_map mentions ps) 1 is) ∙ ap (option_map rule) (sym (t.first ps a.clauses)))
 
-  named_done : Turned step is_so left m n is None → JudgedId (clauses_of_store m) s (clauses_of_store n) s (step is) None
+  named_done : Turned step is_so left m n is None → JudgedId (holding_ids (clauses_of_store m) s) (holding_ids (clauses_of_store n) s) (step is) None
   named_done t = goes_on (clauses_of_store m) s (clauses_of_store n) s (step is)
       (λ ps a. ap first_rule (faults ps is) ∙ first-broken rule (first_not is_so left (flat_map mentions ps) 1 is) ∙ ap (option_map rule) (sym (t.first ps a.clauses)))
       (λ ps a. record { clauses = t.holds ps a.clauses; events = subst (StandsFor s) (sym (events-none ps (step is) (silent is))) a.events })
@@ -241,26 +241,26 @@ unfolding own_id_faults
 restore_faults ps is = refl
 
 module _ (m n : Store) (s : State) (is : List ℕ) where
-  pub delete_stop : (place : ℕ) → Turned lsteps.Delete own.is_active Absent m n is (Some place) → JudgedId (clauses_of_store m) s (clauses_of_store n) s (lsteps.Delete is) (Some (rules.NotActive place))
+  pub delete_stop : (place : ℕ) → Turned lsteps.Delete own.is_active Absent m n is (Some place) → JudgedId (holding_ids (clauses_of_store m) s) (holding_ids (clauses_of_store n) s) (lsteps.Delete is) (Some (rules.NotActive place))
   delete_stop place t = named_stop lsteps.Delete own.is_active Absent rules.NotActive delete_faults (λ is. refl) m n s is place t
 
-  pub delete_done : Turned lsteps.Delete own.is_active Absent m n is None → JudgedId (clauses_of_store m) s (clauses_of_store n) s (lsteps.Delete is) None
+  pub delete_done : Turned lsteps.Delete own.is_active Absent m n is None → JudgedId (holding_ids (clauses_of_store m) s) (holding_ids (clauses_of_store n) s) (lsteps.Delete is) None
   delete_done t = named_done lsteps.Delete own.is_active Absent rules.NotActive delete_faults (λ is. refl) m n s is t
 
-  pub weaken_stop : (o : Option ℕ) (place : ℕ) → o ≡ Some place → Turned lsteps.Weaken own.is_active Weakened m n is o → JudgedId (clauses_of_store m) s (clauses_of_store n) s (lsteps.Weaken is) (Some (rules.NotActive place))
+  pub weaken_stop : (o : Option ℕ) (place : ℕ) → o ≡ Some place → Turned lsteps.Weaken own.is_active Weakened m n is o → JudgedId (holding_ids (clauses_of_store m) s) (holding_ids (clauses_of_store n) s) (lsteps.Weaken is) (Some (rules.NotActive place))
   weaken_stop o place e t = named_stop lsteps.Weaken own.is_active Weakened rules.NotActive weaken_faults (λ is. refl) m n s is place (subst (Turned lsteps.Weaken own.is_active Weakened m n is) e t)
 
-  pub weaken_done : (o : Option ℕ) → o ≡ None → Turned lsteps.Weaken own.is_active Weakened m n is o → JudgedId (clauses_of_store m) s (clauses_of_store n) s (lsteps.Weaken is) None
+  pub weaken_done : (o : Option ℕ) → o ≡ None → Turned lsteps.Weaken own.is_active Weakened m n is o → JudgedId (holding_ids (clauses_of_store m) s) (holding_ids (clauses_of_store n) s) (lsteps.Weaken is) None
   weaken_done o e t = named_done lsteps.Weaken own.is_active Weakened rules.NotActive weaken_faults (λ is. refl) m n s is (subst (Turned lsteps.Weaken own.is_active Weakened m n is) e t)
 
-  pub restore_stop : (o : Option ℕ) (place : ℕ) → o ≡ Some place → Turned lsteps.Restore own.is_weakened Active m n is o → JudgedId (clauses_of_store m) s (clauses_of_store n) s (lsteps.Restore is) (Some (rules.NotWeakened place))
+  pub restore_stop : (o : Option ℕ) (place : ℕ) → o ≡ Some place → Turned lsteps.Restore own.is_weakened Active m n is o → JudgedId (holding_ids (clauses_of_store m) s) (holding_ids (clauses_of_store n) s) (lsteps.Restore is) (Some (rules.NotWeakened place))
   restore_stop o place e t = named_stop lsteps.Restore own.is_weakened Active rules.NotWeakened restore_faults (λ is. refl) m n s is place (subst (Turned lsteps.Restore own.is_weakened Active m n is) e t)
 
-  pub restore_done : (o : Option ℕ) → o ≡ None → Turned lsteps.Restore own.is_weakened Active m n is o → JudgedId (clauses_of_store m) s (clauses_of_store n) s (lsteps.Restore is) None
+  pub restore_done : (o : Option ℕ) → o ≡ None → Turned lsteps.Restore own.is_weakened Active m n is o → JudgedId (holding_ids (clauses_of_store m) s) (holding_ids (clauses_of_store n) s) (lsteps.Restore is) None
   restore_done o e t = named_done lsteps.Restore own.is_weakened Active rules.NotWeakened restore_faults (λ is. refl) m n s is (subst (Turned lsteps.Restore own.is_weakened Active m n is) e t)
 
 -- a step that was judged after room was made
 pub judged-after : (m : Clauses) (s : State) (k : Clauses) (r : State) (n : Clauses) (t : State) (step : LStep) (answer : Option Rule)
-    → ((ps : List LStep) → AreAfterIds m s ps → AreAfterIds k r ps) → JudgedId k r n t step answer → JudgedId m s n t step answer
+    → ((ps : List LStep) → AreAfterIds (holding_ids m s) ps → AreAfterIds (holding_ids k r) ps) → JudgedId (holding_ids k r) (holding_ids n t) step answer → JudgedId (holding_ids m s) (holding_ids n t) step answer
 judged-after m s k r n t step None h j = record { rule = λ ps a. j.rule ps (h ps a); stands = λ ps a. j.stands ps (h ps a) }
 judged-after m s k r n t step (Some rule) h j = record { rule = λ ps a. j.rule ps (h ps a); stands = tt }

@@ -11,7 +11,7 @@ use Rattle.clause_store.specs.declared.StoreFault.TheVariants.{NotActive, NotWea
 use Rattle.clause_store.specs.Clauses as store
 use Rattle.clause_store.specs.Clauses.{Store, literals_at}
 use Rattle.std.proofs.lemmas.Option.{same_Some}
-use Rattle.side_laws.specs.Kept.{kept, clauses_of_store, standing_of, AreWithin}
+use Rattle.side_laws.specs.ClauseStates.{kept, clauses_of_store, standing_of, AreWithin}
 use Rattle.side_laws.proofs.Ids.{holds_deleted, holds_weakened, holds_restored}
 use Rattle.side_laws.proofs.Stores.{active-store, weakened-store, get-active, get-weakened, store_deleted, store_weakened, store_restored, within-change}
 use Rattle.side_laws.proofs.Turns.{IsKind, Went, went-start, went-stop, went-on, went-all, went-end}

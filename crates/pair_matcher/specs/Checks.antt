@@ -1,5 +1,5 @@
 -- How far the check of a pair has come, and what its parts answer.
-use Rattle.std.specs.Prelude.{◌≡◌, ℕ, ◌+◌, true, if◌then◌else◌, List, [], ◌∷◌, ◌++◌, map, drop, count_by, filter_map, Option, None, Some, is_some, option_and_then}
+use Rattle.std.specs.Prelude.{◌≡◌, ℕ, ◌+◌, true, if◌then◌else◌, List, [], ◌∷◌, ◌++◌, map, drop, count_by, filter_map, Option, None, Some, is_some, IsSome, option_and_then}
 use Rattle.session_rules.specs.declared.Side.TheVariants.{Proof}
 use Rattle.session_rules.specs.declared.Event.{Event}
 use Rattle.session_rules.specs.declared.Rule.{Rule}
@@ -8,13 +8,19 @@ use Rattle.session_rules.specs.Lines.{Line, lines, end_line}
 use Rattle.session_rules.specs.Reading.{values_of, steps_of, header_fault}
 use Rattle.session_rules.specs.History.{query_of, assumed}
 use Rattle.session_rules.specs.Pair.{ProofForm, refusals, step_partners, step_matches, faults_from, pair_refusals, is_query, unfinished, surplus, verdict_by}
-use Rattle.slice_tokens.specs.Place.{Place, WhereTold, later, is_cut, last_line}
+use Rattle.pair_matcher.specs.declared.checking.Position.{Position}
+use Rattle.slice_tokens.specs.Place.{Place, WhereTold, ahead, later, is_cut, last_line}
 
 -- ---- The bytes of both streams
 
 -- where the bytes of two streams are told, those still to come are too, and the four lists are so related
 abbrev pub BothTold : (all ahead others ahead_others : Option (List ℕ)) → (List ℕ → List ℕ → List ℕ → List ℕ → Type 0) → Type 0
 BothTold all ahead others ahead_others P = WhereTold all ahead (λ a ta. WhereTold others ahead_others (λ b tb. P a ta b tb))
+
+-- both streams tell their bytes, which are these
+pub record BothTell (left others : Option (List ℕ)) (a b : List ℕ) : Type 0 where
+  pub interaction : left ≡ Some a
+  pub proof : others ≡ Some b
 
 -- the last of some lines is the one that the bound cuts
 abbrev pub EndsCut : List Line → Type 0
@@ -40,7 +46,21 @@ abbrev pub PassesHeader : List ℕ → Option Rule → List ℕ → Place → Li
 PassesHeader name None all place bytes = IsBehindHeader name all place bytes
 PassesHeader name (Some r) all place bytes = header_fault name all ≡ Some (place.line, r)
 
+-- the stream tells its bytes, and its header is broken
+pub record HasBrokenHeader (name : List ℕ) (left : Option (List ℕ)) : Type 0 where
+  pub bytes : List ℕ
+  pub told : left ≡ Some bytes
+  pub broken : IsSome (header_fault name bytes)
+
 -- ---- The check
+
+-- so many queries were passed, and the windows stand at these places
+abbrev pub at : ℕ → Place → Place → Position
+at queries interaction proof = record { interaction = interaction; proof = proof; queries = queries }
+
+-- where the bytes of both streams are told there, this is known of them
+abbrev pub Knows : (all others left others_left : Option (List ℕ)) → Position → (Position → List ℕ → List ℕ → List ℕ → List ℕ → Type 0) → Type 0
+Knows all others left others_left at P = BothTold all (ahead at.interaction left) others (ahead at.proof others_left) (P at)
 
 -- one for a query
 abbrev pub query_count : Option Event → ℕ
@@ -56,54 +76,58 @@ module _ {S : Type 0} (form : ProofForm S) where
 
 -- some lines were passed over without a fault: the side stands for their steps, and the faults and the queries of the pair are
 -- those counted, and those to come
-pub record Checking {S : Type 0} (form : ProofForm S) (stands : List S → Type 0) (queries : ℕ) (asked told : Place) (a ta b tb : List ℕ) : Type 0 where
+pub record Checking {S : Type 0} (form : ProofForm S) (stands : List S → Type 0) (at : Position) (a ta b tb : List ℕ) : Type 0 where
   pub steps : List S
   pub behind : stands steps
-  pub faults : pair_refusals form a b ≡ faults_from form steps (end_line b) (later told tb) (later asked ta)
-  pub count : all_queries form b ≡ queries + queries_in form (later told tb)
-  pub last : last_line told tb ≡ end_line b
-  pub asked_cut : CutComes asked ta
-  pub told_cut : CutComes told tb
+  pub faults : pair_refusals form a b ≡ faults_from form steps (end_line b) (later at.proof tb) (later at.interaction ta)
+  pub count : all_queries form b ≡ at.queries + queries_in form (later at.proof tb)
+  pub last : last_line at.proof tb ≡ end_line b
+  pub interaction_cut : CutComes at.interaction ta
+  pub proof_cut : CutComes at.proof tb
 
 -- a line of the proof was read, which says this step
-pub record AtStep {S : Type 0} (form : ProofForm S) (stands : List S → Type 0) (queries : ℕ) (asked told : Place) (step : S) (a ta b tb : List ℕ) : Type 0 where
+pub record AtStep {S : Type 0} (form : ProofForm S) (stands : List S → Type 0) (at : Position) (step : S) (a ta b tb : List ℕ) : Type 0 where
   pub steps : List S
   pub behind : stands steps
-  pub faults : pair_refusals form a b ≡ refusals Proof told.line (form.faults steps step)
-      ++ step_matches form (assumed (filter_map form.event steps)) told.line (form.event step) (later asked ta)
-      ++ faults_from form (steps ++ step ∷ []) (end_line b) (later told tb) (drop (step_partners form (form.event step) (later asked ta)) (later asked ta))
-  pub count : all_queries form b ≡ queries + (query_count (form.event step) + queries_in form (later told tb))
-  pub last : last_line told tb ≡ end_line b
-  pub asked_cut : CutComes asked ta
-  pub told_cut : CutComes told tb
+  pub faults : pair_refusals form a b ≡ refusals Proof at.proof.line (form.faults steps step)
+      ++ step_matches form (assumed (filter_map form.event steps)) at.proof.line (form.event step) (later at.interaction ta)
+      ++ faults_from form (steps ++ step ∷ []) (end_line b) (later at.proof tb) (drop (step_partners form (form.event step) (later at.interaction ta)) (later at.interaction ta))
+  pub count : all_queries form b ≡ at.queries + (query_count (form.event step) + queries_in form (later at.proof tb))
+  pub last : last_line at.proof tb ≡ end_line b
+  pub interaction_cut : CutComes at.interaction ta
+  pub proof_cut : CutComes at.proof tb
 
 -- its step breaks no own rule, and the side stands for it too; its event, where it is one, is still to be held against its
 -- partner
-pub record AtEvent {S : Type 0} (form : ProofForm S) (stands : List S → Type 0) (queries : ℕ) (asked told : Place) (event : Option Event) (a ta b tb : List ℕ) : Type 0 where
+pub record AtEvent {S : Type 0} (form : ProofForm S) (stands : List S → Type 0) (at : Position) (event : Option Event) (a ta b tb : List ℕ) : Type 0 where
   pub steps : List S
   pub behind : stands steps
-  pub faults : pair_refusals form a b ≡ step_matches form (assumed (filter_map form.event steps)) told.line event (later asked ta)
-      ++ faults_from form steps (end_line b) (later told tb) (drop (step_partners form event (later asked ta)) (later asked ta))
-  pub count : all_queries form b ≡ queries + (query_count event + queries_in form (later told tb))
-  pub last : last_line told tb ≡ end_line b
-  pub asked_cut : CutComes asked ta
-  pub told_cut : CutComes told tb
+  pub faults : pair_refusals form a b ≡ step_matches form (assumed (filter_map form.event steps)) at.proof.line event (later at.interaction ta)
+      ++ faults_from form steps (end_line b) (later at.proof tb) (drop (step_partners form event (later at.interaction ta)) (later at.interaction ta))
+  pub count : all_queries form b ≡ at.queries + (query_count event + queries_in form (later at.proof tb))
+  pub last : last_line at.proof tb ≡ end_line b
+  pub interaction_cut : CutComes at.interaction ta
+  pub proof_cut : CutComes at.proof tb
 
 -- the proof has ended
-pub record AtProofEnd {S : Type 0} (form : ProofForm S) (stands : List S → Type 0) (queries : ℕ) (asked : Place) (line : ℕ) (a ta b tb : List ℕ) : Type 0 where
+pub record AtProofEnd {S : Type 0} (form : ProofForm S) (stands : List S → Type 0) (at : Position) (a ta b tb : List ℕ) : Type 0 where
   pub steps : List S
   pub behind : stands steps
-  pub faults : pair_refusals form a b ≡ unfinished (filter_map form.event steps) line ++ surplus (later asked ta)
-  pub count : all_queries form b ≡ queries
-  pub asked_cut : CutComes asked ta
+  pub faults : pair_refusals form a b ≡ unfinished (filter_map form.event steps) at.proof.line ++ surplus (later at.interaction ta)
+  pub count : all_queries form b ≡ at.queries
+  pub interaction_cut : CutComes at.interaction ta
 
 -- and no query is open
-pub record AtSurplus {S : Type 0} (form : ProofForm S) (queries : ℕ) (asked : Place) (a ta b tb : List ℕ) : Type 0 where
-  pub faults : pair_refusals form a b ≡ surplus (later asked ta)
-  pub count : all_queries form b ≡ queries
-  pub asked_cut : CutComes asked ta
+pub record AtSurplus {S : Type 0} (form : ProofForm S) (at : Position) (a ta b tb : List ℕ) : Type 0 where
+  pub faults : pair_refusals form a b ≡ surplus (later at.interaction ta)
+  pub count : all_queries form b ≡ at.queries
+  pub interaction_cut : CutComes at.interaction ta
+
+-- the verdict, whatever is left of the streams
+abbrev pub IsVerdictOf : {S : Type 0} → ProofForm S → Verdict → List ℕ → List ℕ → List ℕ → List ℕ → Type 0
+IsVerdictOf form v a ta b tb = v ≡ verdict_by form a b
 
 -- what one turn of the check answers: the verdict, or none, and the check goes on
-abbrev pub Turns : {S : Type 0} → ProofForm S → (List S → Type 0) → ℕ → Place → Place → Option Verdict → List ℕ → List ℕ → List ℕ → List ℕ → Type 0
-Turns form stands queries asked told None a ta b tb = Checking form stands queries asked told a ta b tb
-Turns form stands queries asked told (Some v) a ta b tb = v ≡ verdict_by form a b
+abbrev pub Turns : {S : Type 0} → ProofForm S → (List S → Type 0) → Option Verdict → Position → List ℕ → List ℕ → List ℕ → List ℕ → Type 0
+Turns form stands None at a ta b tb = Checking form stands at a ta b tb
+Turns form stands (Some v) at a ta b tb = IsVerdictOf form v a ta b tb

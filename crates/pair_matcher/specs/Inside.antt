@@ -4,11 +4,14 @@ use Rattle.lits.specs.Literal.{var}
 use Rattle.clause_store.specs.Clauses.{Store}
 use Rattle.propagation.specs.Clauses.{Clause}
 use Rattle.propagation.specs.Engine.{EngineView, level_after}
-use Rattle.side_laws.specs.Kept.{Kept, Clauses, kept, kept_by, clauses_of_store, AreWithin}
+use Rattle.side_laws.specs.ClauseStates.{ClauseState, Clauses, kept, kept_by, clauses_of_store, AreWithin}
 use Rattle.session_events.specs.State.{State}
+use Rattle.pair_matcher.specs.declared.idrup.Parts as idrup
+use Rattle.pair_matcher.specs.declared.lidrup.Parts as lidrup
+use Rattle.pair_matcher.specs.Sides.{IdrupState, LidrupState, holding, holding_ids}
 
 -- the hint rule has room for all variables, those of the clauses and those that the events reserved
-pub record IsInside (m : Store) (s : State) (vars : ℕ) : Type 0 where
+pub record HasHintRoom (m : Store) (s : State) (vars : ℕ) : Type 0 where
   pub clauses : AreWithin (clauses_of_store m) vars
   pub events : s.reserved ≤ vars
 
@@ -17,7 +20,7 @@ abbrev pub AreBelow : List ℕ → ℕ → Type 0
 AreBelow ls vars = All (λ l. var l ≤ vars) ls
 
 -- what is seen of a clause of an engine
-abbrev pub kept_of_clause : Clause → Kept
+abbrev pub kept_of_clause : Clause → ClauseState
 kept_of_clause c = kept (is_some c.slot) c.literals
 
 -- the clauses of an engine
@@ -28,3 +31,10 @@ clauses_of_engine e = kept_by kept_of_clause e.clauses
 pub record IsBetweenLines (e : EngineView) (s : State) : Type 0 where
   pub events : s.reserved ≤ e.vars
   pub level : level_after e.trail ≡ 0
+
+-- what the parts of a side say of its steps
+abbrev pub state_of : idrup.Parts → IdrupState
+state_of p = holding (clauses_of_engine p.engine) p.next p.events
+
+abbrev pub state_of_ids : lidrup.Parts → LidrupState
+state_of_ids p = holding_ids (clauses_of_store p.store) p.events

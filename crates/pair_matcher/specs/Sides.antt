@@ -7,7 +7,7 @@ use Rattle.session_rules.specs.declared.Event.TheVariants as events
 use Rattle.session_rules.specs.declared.Step.{Step}
 use Rattle.session_rules.specs.declared.Step.TheVariants as steps
 use Rattle.session_rules.specs.Own.{events_of, own_faults, id_events_of, own_id_faults}
-use Rattle.side_laws.specs.Kept.{Clauses}
+use Rattle.side_laws.specs.ClauseStates.{Clauses}
 use Rattle.side_laws.specs.Ids.{HoldsIds}
 use Rattle.side_laws.specs.Sets.{HoldsSets}
 use Rattle.session_events.specs.State.{State}
@@ -26,20 +26,28 @@ pub record LidrupView : Type 0 where
   pub clauses : Clauses
   pub events : State
 
+-- what it says of its steps: the clauses by id, and what the events say
+pub record LidrupState : Type 0 where
+  pub clauses : Clauses
+  pub events : State
+
+abbrev pub holding_ids : Clauses → State → LidrupState
+holding_ids clauses events = record { clauses = clauses; events = events }
+
 -- the clauses, the phase, the assumptions and the inputs are those that these steps leave
-pub record AreAfterIds (m : Clauses) (s : State) (ps : List LStep) : Type 0 where
-  pub clauses : HoldsIds m ps
-  pub events : state.StandsFor s (id_events_of ps)
+pub record AreAfterIds (s : LidrupState) (ps : List LStep) : Type 0 where
+  pub clauses : HoldsIds s.clauses ps
+  pub events : state.StandsFor s.events (id_events_of ps)
 
 -- the side stands for these steps
 abbrev pub StandsForIds : LidrupView → List LStep → Type 0
-StandsForIds v ps = AreAfterIds v.clauses v.events ps
+StandsForIds v ps = AreAfterIds (holding_ids v.clauses v.events) ps
 
 -- the step was judged. Whatever steps the side stood for: the answer is the first own rule that the step breaks behind them, and
 -- where there is none the side stands for the steps with this one at their end
-pub record JudgedId (m : Clauses) (s : State) (n : Clauses) (t : State) (step : LStep) (answer : Option Rule) : Type 0 where
-  pub rule : (ps : List LStep) → AreAfterIds m s ps → answer ≡ first_rule (own_id_faults ps step)
-  pub stands : IfNone answer ((ps : List LStep) → AreAfterIds m s ps → AreAfterIds n t (ps ++ step ∷ []))
+pub record JudgedId (old new : LidrupState) (step : LStep) (answer : Option Rule) : Type 0 where
+  pub rule : (ps : List LStep) → AreAfterIds old ps → answer ≡ first_rule (own_id_faults ps step)
+  pub stands : IfNone answer ((ps : List LStep) → AreAfterIds old ps → AreAfterIds new (ps ++ step ∷ []))
 
 -- the steps that take no memory: a status and a deletion
 abbrev pub takes_no_memory : LStep → Bool
@@ -56,19 +64,28 @@ pub record IdrupView : Type 0 where
   pub next : ℕ
   pub events : State
 
+-- what it says of its steps: the clauses by the ids that it gave, the next id, and what the events say
+pub record IdrupState : Type 0 where
+  pub clauses : Clauses
+  pub next : ℕ
+  pub events : State
+
+abbrev pub holding : Clauses → ℕ → State → IdrupState
+holding clauses next events = record { clauses = clauses; next = next; events = events }
+
 -- the clauses, the next id, the phase, the assumptions and the inputs are those that these steps leave
-pub record AreAfter (m : Clauses) (next : ℕ) (s : State) (ps : List Step) : Type 0 where
-  pub clauses : HoldsSets m next ps
-  pub events : state.StandsFor s (events_of ps)
+pub record AreAfter (s : IdrupState) (ps : List Step) : Type 0 where
+  pub clauses : HoldsSets s.clauses s.next ps
+  pub events : state.StandsFor s.events (events_of ps)
 
 -- the side stands for these steps
 abbrev pub StandsFor : IdrupView → List Step → Type 0
-StandsFor v ps = AreAfter v.clauses v.next v.events ps
+StandsFor v ps = AreAfter (holding v.clauses v.next v.events) ps
 
 -- the step was judged, as with ids
-pub record Judged (m : Clauses) (next : ℕ) (s : State) (n : Clauses) (after : ℕ) (t : State) (step : Step) (answer : Option Rule) : Type 0 where
-  pub rule : (ps : List Step) → AreAfter m next s ps → answer ≡ first_rule (own_faults ps step)
-  pub stands : IfNone answer ((ps : List Step) → AreAfter m next s ps → AreAfter n after t (ps ++ step ∷ []))
+pub record Judged (old new : IdrupState) (step : Step) (answer : Option Rule) : Type 0 where
+  pub rule : (ps : List Step) → AreAfter old ps → answer ≡ first_rule (own_faults ps step)
+  pub stands : IfNone answer ((ps : List Step) → AreAfter old ps → AreAfter new (ps ++ step ∷ []))
 
 -- the steps without ids that take no memory: a status, a core, and a deletion of at most so many literals as a set holds without
 -- memory

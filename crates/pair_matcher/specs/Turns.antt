@@ -4,7 +4,7 @@ use Rattle.session_rules.specs.declared.LStep.{LStep}
 use Rattle.session_rules.specs.declared.Standing.{Standing}
 use Rattle.session_rules.specs.Own.{mentions, first_not}
 use Rattle.clause_store.specs.Clauses.{Store}
-use Rattle.side_laws.specs.Kept.{clauses_of_store}
+use Rattle.side_laws.specs.ClauseStates.{clauses_of_store}
 use Rattle.side_laws.specs.Ids.{HoldsIds}
 
 -- the ids were gone through in turn. Whatever steps the store held the clauses of: the answer is the place of the first id that

@@ -1,7 +1,7 @@
 // The check of a pair, line by line. Each line of the proof is read, judged by itself, and held against its partner where it is
 // an event; so the first fault that is met is the first of all, and the check ends with it.
 
-ghost use Rattle.std.specs.Prelude.{◌≡◌, ℕ, ◌+◌, ◌<◌, ◌≤◌, ◌^◌, true, List, Option, Some, None, Err, All, length, max, OnOk, OnErr, IfOk, IfNone, IfSome, IsErrOf};
+ghost use Rattle.std.specs.Prelude.{codes, ◌≡◌, ℕ, ◌+◌, ◌<◌, ◌≤◌, ◌^◌, true, List, Option, Some, None, Err, All, length, max, OnOk, OnErr, IfOk, IfNone, IfSome, IsErrOf};
 ghost use Rattle.lits.specs.Literal.{var};
 ghost use Rattle.outside.specs.Faults.{Rose};
 ghost use Rattle.session_rules.specs.declared.Verdict.TheVariants as verdicts;
@@ -9,7 +9,7 @@ ghost use Rattle.session_rules.specs.History.{event_literals};
 ghost use Rattle.session_rules.specs.Pair.{verdict, verdict_by};
 ghost use Rattle.slice_tokens.specs.Place.{at_start, ahead, WhereTold};
 ghost use Rattle.slice_tokens.specs.Calls.{Moves};
-ghost use Rattle.pair_matcher.specs.Checks.{BothTold, PassesHeader, query_count, Checking, AtStep, AtEvent, AtProofEnd, AtSurplus, Turns};
+ghost use Rattle.pair_matcher.specs.Checks.{BothTold, BothTell, HasBrokenHeader, IsBehindHeader, PassesHeader, Knows, IsVerdictOf, query_count, Checking, AtStep, AtEvent, AtProofEnd, AtSurplus, Turns};
 
 use crate::idrup::IdrupSide;
 use crate::lidrup::LidrupSide;
@@ -31,15 +31,21 @@ pub enum CheckFault {
     Memory = 3,
 }
 
-/// What a check is made of: the side of the proof, room for marks, a window over each file, how many queries were passed, and
-/// the memory for the lists of the next line.
+/// How far a check has come: a window over each file, and how many queries were passed.
+#[derive(Drop)]
+struct Position {
+    interaction: Window,
+    proof: Window,
+    queries: u64,
+}
+
+/// What a check is made of: the side of the proof, room for marks, how far it has come, and the memory for the lists of the
+/// next line.
 #[derive(Drop)]
 struct Check<P> {
     side: P,
     marks: Marks,
-    asked: Window,
-    told: Window,
-    queries: u64,
+    at: Position,
     spare: Spare,
 }
 
@@ -95,7 +101,7 @@ fn into_literals(event: Event) -> Option<Lits>
 // Makes room for the marks of an event and of the last query.
 fn reserve_marks<P: ProofSide>(marks: &mut Marks, side: &P, event: &Event) -> Result<(), AllocError>
     ensures event { OnOk result (All (λ l. var l ≤ marks.new) (event_literals event.now)) }
-    ensures last { OnOk result (All (λ l. var l ≤ marks.new) (P.asked side.now)) }
+    ensures last { OnOk result (All (λ l. var l ≤ marks.new) (P.assumed side.now)) }
 {
     let variable = greatest_variable(event.lits()).max(side.greatest());
     marks.reserve(variable)
@@ -107,12 +113,13 @@ fn take_event<A: Source, P: ProofSide>(
     interaction: &mut A,
     event: &Event,
 ) -> Result<Option<Verdict>, CheckFault>
-    requires queries { c.old.queries < 2 ^ 63 }
+    requires queries { c.old.at.queries < 2 ^ 63 }
     ensures side { c.new.side ≡ c.old.side }
-    ensures place { c.new.told ≡ c.old.told }
-    ensures queries { c.new.queries ≤ c.old.queries + 1 }
-    ensures told { IfOk result (λ v. (a b tb : Option (List ℕ)) → BothTold a (ahead c.old.asked (A.left interaction.old)) b tb (AtEvent P.form (P.stands c.old.side) c.old.queries c.old.asked c.old.told (Some event.now))
-        → BothTold a (ahead c.new.asked (A.left interaction.new)) b tb (Turns P.form (P.stands c.new.side) c.new.queries c.new.asked c.new.told v)) }
+    ensures place { c.new.at.proof ≡ c.old.at.proof }
+    ensures queries { c.new.at.queries ≤ c.old.at.queries + 1 }
+    ensures told { IfOk result (λ v. (a b tb : Option (List ℕ))
+        → BothTold a (ahead c.old.at.interaction (A.left interaction.old)) b tb (AtEvent P.form (P.stands c.old.side) c.old.at (Some event.now))
+        → BothTold a (ahead c.new.at.interaction (A.left interaction.new)) b tb (Turns P.form (P.stands c.new.side) v c.new.at)) }
     ensures count { A.faults interaction.old ≤ A.faults interaction.new }
     ensures read { IsErrOf result CheckFault.ReadInteraction → Rose (A.faults interaction.old) (A.faults interaction.new) }
     ensures proof { IsErrOf result CheckFault.ReadProof → ⊥ }
@@ -121,20 +128,20 @@ fn take_event<A: Source, P: ProofSide>(
         return Err(CheckFault::Memory);
     }
     match match_line(
-        &mut c.asked,
+        &mut c.at.interaction,
         interaction,
         event,
-        c.side.last_query(),
+        c.side.assumptions(),
         &mut c.marks,
     ) {
         Ok(Match::Agrees) => {
-            c.queries += query_count(event);
+            c.at.queries += query_count(event);
             Ok(None)
         }
-        Ok(Match::Ended) => Ok(Some(refused(Side::Proof, c.told.line(), Rule::Ended))),
-        Ok(Match::Differs(rule)) => Ok(Some(refused(Side::Interaction, c.asked.line(), rule))),
+        Ok(Match::Ended) => Ok(Some(refused(Side::Proof, c.at.proof.line(), Rule::Ended))),
+        Ok(Match::Differs(rule)) => Ok(Some(refused(Side::Interaction, c.at.interaction.line(), rule))),
         Err(MatchFault::Syntax(rule)) => {
-            Ok(Some(refused(Side::Interaction, c.asked.line(), rule)))
+            Ok(Some(refused(Side::Interaction, c.at.interaction.line(), rule)))
         }
         Err(MatchFault::Read) => Err(CheckFault::ReadInteraction),
     }
@@ -148,20 +155,21 @@ fn take_step<A: Source, P: ProofSide>(
 ) -> Result<Option<Verdict>, CheckFault>
     requires live { P.live c.old.side ≡ true }
     requires next { P.next c.old.side < 2 ^ 63 }
-    requires queries { c.old.queries < 2 ^ 63 }
+    requires queries { c.old.at.queries < 2 ^ 63 }
     ensures live { IfOk result (λ v. IfNone v (P.live c.new.side ≡ true)) }
     ensures next { P.next c.new.side ≤ P.next c.old.side + 1 }
-    ensures place { c.new.told ≡ c.old.told }
-    ensures queries { c.new.queries ≤ c.old.queries + 1 }
-    ensures told { IfOk result (λ v. (a b tb : Option (List ℕ)) → BothTold a (ahead c.old.asked (A.left interaction.old)) b tb (AtStep P.form (P.stands c.old.side) c.old.queries c.old.asked c.old.told step)
-        → BothTold a (ahead c.new.asked (A.left interaction.new)) b tb (Turns P.form (P.stands c.new.side) c.new.queries c.new.asked c.new.told v)) }
+    ensures place { c.new.at.proof ≡ c.old.at.proof }
+    ensures queries { c.new.at.queries ≤ c.old.at.queries + 1 }
+    ensures told { IfOk result (λ v. (a b tb : Option (List ℕ))
+        → BothTold a (ahead c.old.at.interaction (A.left interaction.old)) b tb (AtStep P.form (P.stands c.old.side) c.old.at step)
+        → BothTold a (ahead c.new.at.interaction (A.left interaction.new)) b tb (Turns P.form (P.stands c.new.side) v c.new.at)) }
     ensures count { A.faults interaction.old ≤ A.faults interaction.new }
     ensures read { IsErrOf result CheckFault.ReadInteraction → Rose (A.faults interaction.old) (A.faults interaction.new) }
     ensures proof { IsErrOf result CheckFault.ReadProof → ⊥ }
 {
     match c.side.take_step(&step) {
         Ok(None) => {}
-        Ok(Some(rule)) => return Ok(Some(refused(Side::Proof, c.told.line(), rule))),
+        Ok(Some(rule)) => return Ok(Some(refused(Side::Proof, c.at.proof.line(), rule))),
         Err(_) => return Err(CheckFault::Memory),
     }
     match P::into_event(step, &mut c.spare) {
@@ -182,19 +190,20 @@ fn take_surplus<A: Source, P: ProofSide>(
     c: &mut Check<P>,
     interaction: &mut A,
 ) -> Result<Verdict, CheckFault>
-    ensures told { IfOk result (λ v. (a b tb : Option (List ℕ)) → BothTold a (ahead c.old.asked (A.left interaction.old)) b tb (AtSurplus P.form c.old.queries c.old.asked)
-        → BothTold a (ahead c.new.asked (A.left interaction.new)) b tb (λ a ta b tb. v ≡ verdict_by P.form a b)) }
-    ensures place { c.new.told ≡ c.old.told }
+    ensures told { IfOk result (λ v. (a b tb : Option (List ℕ))
+        → BothTold a (ahead c.old.at.interaction (A.left interaction.old)) b tb (AtSurplus P.form c.old.at)
+        → BothTold a (ahead c.new.at.interaction (A.left interaction.new)) b tb (IsVerdictOf P.form v)) }
+    ensures place { c.new.at.proof ≡ c.old.at.proof }
     ensures count { A.faults interaction.old ≤ A.faults interaction.new }
     ensures read { IsErrOf result CheckFault.ReadInteraction → Rose (A.faults interaction.old) (A.faults interaction.new) }
     ensures proof { IsErrOf result CheckFault.ReadProof → ⊥ }
 {
-    match c.asked.next_line(interaction) {
-        Ok(true) => Ok(refused(Side::Interaction, c.asked.line(), Rule::Surplus)),
-        Ok(false) => Ok(Verdict::Accepted { queries: c.queries }),
+    match c.at.interaction.next_line(interaction) {
+        Ok(true) => Ok(refused(Side::Interaction, c.at.interaction.line(), Rule::Surplus)),
+        Ok(false) => Ok(Verdict::Accepted { queries: c.at.queries }),
         Err(TokenFault::Read) => Err(CheckFault::ReadInteraction),
-        Err(TokenFault::Length) => Ok(refused(Side::Interaction, c.asked.line(), Rule::Length)),
-        Err(TokenFault::LongWord) => Ok(refused(Side::Interaction, c.asked.line(), Rule::Length)),
+        Err(TokenFault::Length) => Ok(refused(Side::Interaction, c.at.interaction.line(), Rule::Length)),
+        Err(TokenFault::LongWord) => Ok(refused(Side::Interaction, c.at.interaction.line(), Rule::Length)),
     }
 }
 
@@ -203,15 +212,16 @@ fn take_end<A: Source, P: ProofSide>(
     c: &mut Check<P>,
     interaction: &mut A,
 ) -> Result<Verdict, CheckFault>
-    ensures told { IfOk result (λ v. (a b tb : Option (List ℕ)) → BothTold a (ahead c.old.asked (A.left interaction.old)) b tb (AtProofEnd P.form (P.stands c.old.side) c.old.queries c.old.asked c.old.told.line)
-        → BothTold a (ahead c.new.asked (A.left interaction.new)) b tb (λ a ta b tb. v ≡ verdict_by P.form a b)) }
-    ensures place { c.new.told ≡ c.old.told }
+    ensures told { IfOk result (λ v. (a b tb : Option (List ℕ))
+        → BothTold a (ahead c.old.at.interaction (A.left interaction.old)) b tb (AtProofEnd P.form (P.stands c.old.side) c.old.at)
+        → BothTold a (ahead c.new.at.interaction (A.left interaction.new)) b tb (IsVerdictOf P.form v)) }
+    ensures place { c.new.at.proof ≡ c.old.at.proof }
     ensures count { A.faults interaction.old ≤ A.faults interaction.new }
     ensures read { IsErrOf result CheckFault.ReadInteraction → Rose (A.faults interaction.old) (A.faults interaction.new) }
     ensures proof { IsErrOf result CheckFault.ReadProof → ⊥ }
 {
     match c.side.end_rule() {
-        Some(rule) => Ok(refused(Side::Proof, c.told.line(), rule)),
+        Some(rule) => Ok(refused(Side::Proof, c.at.proof.line(), rule)),
         None => match take_surplus(c, interaction) {
             Ok(verdict) => Ok(verdict),
             Err(fault) => Err(fault),
@@ -227,20 +237,20 @@ fn turn<A: Source, B: Source, P: ProofSide>(
 ) -> Result<Option<Verdict>, CheckFault>
     requires live { P.live c.old.side ≡ true }
     requires next { P.next c.old.side < 2 ^ 63 }
-    requires queries { c.old.queries < 2 ^ 63 }
+    requires queries { c.old.at.queries < 2 ^ 63 }
     ensures live { IfOk result (λ v. IfNone v (P.live c.new.side ≡ true)) }
     ensures next { IfOk result (λ v. IfNone v (P.next c.new.side ≤ P.next c.old.side + 1)) }
-    ensures queries { IfOk result (λ v. IfNone v (c.new.queries ≤ c.old.queries + 1)) }
-    ensures moves { Moves c.old.told c.new.told }
-    ensures progress { IfOk result (λ v. IfNone v (c.old.told.passed < c.new.told.passed)) }
-    ensures told { IfOk result (λ v. (a b : Option (List ℕ)) → BothTold a (ahead c.old.asked (A.left interaction.old)) b (ahead c.old.told (B.left proof.old)) (Checking P.form (P.stands c.old.side) c.old.queries c.old.asked c.old.told)
-        → BothTold a (ahead c.new.asked (A.left interaction.new)) b (ahead c.new.told (B.left proof.new)) (Turns P.form (P.stands c.new.side) c.new.queries c.new.asked c.new.told v)) }
+    ensures queries { IfOk result (λ v. IfNone v (c.new.at.queries ≤ c.old.at.queries + 1)) }
+    ensures moves { Moves c.old.at.proof c.new.at.proof }
+    ensures progress { IfOk result (λ v. IfNone v (c.old.at.proof.passed < c.new.at.proof.passed)) }
+    ensures told { IfOk result (λ v. (a b : Option (List ℕ)) → Knows a b (A.left interaction.old) (B.left proof.old) c.old.at (Checking P.form (P.stands c.old.side))
+        → Knows a b (A.left interaction.new) (B.left proof.new) c.new.at (Turns P.form (P.stands c.new.side) v)) }
     ensures interaction_count { A.faults interaction.old ≤ A.faults interaction.new }
     ensures proof_count { B.faults proof.old ≤ B.faults proof.new }
     ensures read_interaction { IsErrOf result CheckFault.ReadInteraction → Rose (A.faults interaction.old) (A.faults interaction.new) }
     ensures read_proof { IsErrOf result CheckFault.ReadProof → Rose (B.faults proof.old) (B.faults proof.new) }
 {
-    match P::read_step(&mut c.spare, &mut c.told, proof) {
+    match P::read_step(&mut c.spare, &mut c.at.proof, proof) {
         Ok(Some(step)) => match take_step(c, interaction, step) {
             Ok(answer) => Ok(answer),
             Err(fault) => Err(fault),
@@ -249,7 +259,7 @@ fn turn<A: Source, B: Source, P: ProofSide>(
             Ok(verdict) => Ok(Some(verdict)),
             Err(fault) => Err(fault),
         },
-        Err(LineFault::Syntax(rule)) => Ok(Some(refused(Side::Proof, c.told.line(), rule))),
+        Err(LineFault::Syntax(rule)) => Ok(Some(refused(Side::Proof, c.at.proof.line(), rule))),
         Err(LineFault::Read) => Err(CheckFault::ReadProof),
         Err(LineFault::Memory) => Err(CheckFault::Memory),
     }
@@ -262,11 +272,11 @@ fn take_lines<A: Source, B: Source, P: ProofSide>(
     proof: &mut B,
 ) -> Result<Verdict, CheckFault>
     requires live { P.live c.old.side ≡ true }
-    requires next { P.next c.old.side ≤ 1 + c.old.told.passed }
-    requires queries { c.old.queries ≤ c.old.told.passed }
-    requires bound { c.old.told.passed ≤ 2 ^ 62 }
-    ensures told { IfOk result (λ v. (a b : Option (List ℕ)) → BothTold a (ahead c.old.asked (A.left interaction.old)) b (ahead c.old.told (B.left proof.old)) (Checking P.form (P.stands c.old.side) c.old.queries c.old.asked c.old.told)
-        → BothTold a (ahead c.new.asked (A.left interaction.new)) b (ahead c.new.told (B.left proof.new)) (λ a ta b tb. v ≡ verdict_by P.form a b)) }
+    requires next { P.next c.old.side ≤ 1 + c.old.at.proof.passed }
+    requires queries { c.old.at.queries ≤ c.old.at.proof.passed }
+    requires bound { c.old.at.proof.passed ≤ 2 ^ 62 }
+    ensures told { IfOk result (λ v. (a b : Option (List ℕ)) → Knows a b (A.left interaction.old) (B.left proof.old) c.old.at (Checking P.form (P.stands c.old.side))
+        → Knows a b (A.left interaction.new) (B.left proof.new) c.new.at (λ at. IsVerdictOf P.form v)) }
     ensures interaction_count { A.faults interaction.old ≤ A.faults interaction.new }
     ensures proof_count { B.faults proof.old ≤ B.faults proof.new }
     ensures read_interaction { IsErrOf result CheckFault.ReadInteraction → Rose (A.faults interaction.old) (A.faults interaction.new) }
@@ -281,35 +291,30 @@ fn take_lines<A: Source, B: Source, P: ProofSide>(
     }
 }
 
-// Checks a pair whose proof has the form of this side.
-fn check_by<A: Source, B: Source, P: ProofSide>(
+// Checks a pair whose interaction is behind its header, where this window stands.
+fn check_behind<A: Source, B: Source, P: ProofSide>(
     alloc: Global,
     name: &[u8],
+    interaction_window: Window,
     interaction: &mut A,
     proof: &mut B,
 ) -> Result<Verdict, CheckFault>
     requires name { name.now ≡ P.form.name }
     requires short { length name.now ≤ 32 }
-    ensures verdict { IfOk result (λ v. (a b : List ℕ) → A.left interaction.old ≡ Some a → B.left proof.old ≡ Some b → v ≡ verdict_by P.form a b) }
+    ensures verdict { IfOk result (λ v. (a b : List ℕ) → (left : Option (List ℕ))
+        → WhereTold left (ahead interaction_window (A.left interaction.old)) (λ all rest. IsBehindHeader (codes "icnf") all interaction_window rest)
+        → BothTell left (B.left proof.old) a b → v ≡ verdict_by P.form a b) }
     ensures interaction_count { A.faults interaction.old ≤ A.faults interaction.new }
     ensures proof_count { B.faults proof.old ≤ B.faults proof.new }
     ensures read_interaction { IsErrOf result CheckFault.ReadInteraction → Rose (A.faults interaction.old) (A.faults interaction.new) }
     ensures read_proof { IsErrOf result CheckFault.ReadProof → Rose (B.faults proof.old) (B.faults proof.new) }
 {
-    let Ok(mut asked) = Window::new(alloc) else {
+    let Ok(mut proof_window) = Window::new(alloc) else {
         return Err(CheckFault::Memory);
     };
-    let Ok(mut told) = Window::new(alloc) else {
-        return Err(CheckFault::Memory);
-    };
-    match pass_header(&mut asked, interaction, b"icnf") {
+    match pass_header(&mut proof_window, proof, name) {
         Ok(None) => {}
-        Ok(Some(rule)) => return Ok(refused(Side::Interaction, asked.line(), rule)),
-        Err(Failed) => return Err(CheckFault::ReadInteraction),
-    }
-    match pass_header(&mut told, proof, name) {
-        Ok(None) => {}
-        Ok(Some(rule)) => return Ok(refused(Side::Proof, told.line(), rule)),
+        Ok(Some(rule)) => return Ok(refused(Side::Proof, proof_window.line(), rule)),
         Err(Failed) => return Err(CheckFault::ReadProof),
     }
     let Ok(side) = P::start(alloc) else {
@@ -318,12 +323,44 @@ fn check_by<A: Source, B: Source, P: ProofSide>(
     let mut check = Check {
         side,
         marks: Marks::new(alloc),
-        asked,
-        told,
-        queries: 0,
+        at: Position {
+            interaction: interaction_window,
+            proof: proof_window,
+            queries: 0,
+        },
         spare: Spare::new(alloc),
     };
     match take_lines(&mut check, interaction, proof) {
+        Ok(verdict) => Ok(verdict),
+        Err(fault) => Err(fault),
+    }
+}
+
+// Checks a pair whose proof has the form of this side. The interaction's header is read and judged before the proof is looked at.
+fn check_by<A: Source, B: Source, P: ProofSide>(
+    alloc: Global,
+    name: &[u8],
+    interaction: &mut A,
+    proof: &mut B,
+) -> Result<Verdict, CheckFault>
+    requires name { name.now ≡ P.form.name }
+    requires short { length name.now ≤ 32 }
+    ensures verdict { IfOk result (λ v. (a b : List ℕ) → BothTell (A.left interaction.old) (B.left proof.old) a b → v ≡ verdict_by P.form a b) }
+    ensures header { HasBrokenHeader (codes "icnf") (A.left interaction.old) → proof.new ≡ proof.old }
+    ensures interaction_count { A.faults interaction.old ≤ A.faults interaction.new }
+    ensures proof_count { B.faults proof.old ≤ B.faults proof.new }
+    ensures read_interaction { IsErrOf result CheckFault.ReadInteraction → Rose (A.faults interaction.old) (A.faults interaction.new) }
+    ensures read_proof { IsErrOf result CheckFault.ReadProof → Rose (B.faults proof.old) (B.faults proof.new) }
+{
+    let Ok(mut window) = Window::new(alloc) else {
+        return Err(CheckFault::Memory);
+    };
+    match pass_header(&mut window, interaction, b"icnf") {
+        Ok(None) => {}
+        Ok(Some(rule)) => return Ok(refused(Side::Interaction, window.line(), rule)),
+        Err(Failed) => return Err(CheckFault::ReadInteraction),
+    }
+    match check_behind::<A, B, P>(alloc, name, window, interaction, proof) {
         Ok(verdict) => Ok(verdict),
         Err(fault) => Err(fault),
     }
@@ -342,7 +379,8 @@ pub fn check_pair<A: Source, B: Source>(
     interaction: &mut A,
     proof: &mut B,
 ) -> Result<Verdict, CheckFault>
-    ensures verdict { IfOk result (λ v. (a b : List ℕ) → A.left interaction.old ≡ Some a → B.left proof.old ≡ Some b → v ≡ verdict form a b) }
+    ensures verdict { IfOk result (λ v. (a b : List ℕ) → BothTell (A.left interaction.old) (B.left proof.old) a b → v ≡ verdict form a b) }
+    ensures header { HasBrokenHeader (codes "icnf") (A.left interaction.old) → proof.new ≡ proof.old }
     ensures interaction_count { A.faults interaction.old ≤ A.faults interaction.new }
     ensures proof_count { B.faults proof.old ≤ B.faults proof.new }
     ensures read_interaction { IsErrOf result CheckFault.ReadInteraction → Rose (A.faults interaction.old) (A.faults interaction.new) }

@@ -13,7 +13,7 @@ ghost use Rattle.session_rules.specs.Own.{events_of, own_faults};
 ghost use Rattle.session_rules.specs.Pair.{is_idle};
 ghost use Rattle.session_events.specs.State.{AreReserved};
 ghost use Rattle.pair_matcher.specs.Sides.{StandsFor, AreAfter, Judged, first_rule, is_frugal};
-ghost use Rattle.pair_matcher.specs.Inside.{clauses_of_engine, IsBetweenLines};
+ghost use Rattle.pair_matcher.specs.Inside.{IsBetweenLines, state_of};
 
 use crate::literals::{greatest_variable, negate};
 use lits::{Lit, LitSet};
@@ -39,7 +39,7 @@ fn reserve(p: &mut Parts, lits: &[Lit]) -> Result<(), AllocError>
     requires { IsBetweenLines p.old.engine p.old.events }
     ensures reserved { OnOk result (AreReserved p.new.events lits.now) }
     ensures next { p.new.next ≡ p.old.next }
-    ensures stands { (ps : List Step) → AreAfter (clauses_of_engine p.old.engine) p.old.next p.old.events ps → AreAfter (clauses_of_engine p.new.engine) p.new.next p.new.events ps }
+    ensures stands { (ps : List Step) → AreAfter (state_of p.old) ps → AreAfter (state_of p.new) ps }
     ensures inside { IsBetweenLines p.new.engine p.new.events }
 {
     let variable = greatest_variable(lits);
@@ -53,7 +53,7 @@ fn judge_input(p: &mut Parts, lits: &[Lit]) -> Result<Option<Rule>, AllocError>
     requires inside { IsBetweenLines p.old.engine p.old.events }
     requires reserved { AreReserved p.old.events lits.now }
     requires next { p.old.next < 2 ^ 63 }
-    ensures judged { IfOk result (λ r. Judged (clauses_of_engine p.old.engine) p.old.next p.old.events (clauses_of_engine p.new.engine) p.new.next p.new.events (steps.Event (events.Input lits.now)) r) }
+    ensures judged { IfOk result (λ r. Judged (state_of p.old) (state_of p.new) (steps.Event (events.Input lits.now)) r) }
     ensures inside { IsBetweenLines p.new.engine p.new.events }
     ensures next { p.new.next ≤ p.old.next + 1 }
 {
@@ -73,7 +73,7 @@ fn judge_input(p: &mut Parts, lits: &[Lit]) -> Result<Option<Rule>, AllocError>
 fn judge_query(p: &mut Parts, lits: &[Lit]) -> Result<Option<Rule>, AllocError>
     requires inside { IsBetweenLines p.old.engine p.old.events }
     requires reserved { AreReserved p.old.events lits.now }
-    ensures judged { IfOk result (λ r. Judged (clauses_of_engine p.old.engine) p.old.next p.old.events (clauses_of_engine p.new.engine) p.new.next p.new.events (steps.Event (events.Query lits.now)) r) }
+    ensures judged { IfOk result (λ r. Judged (state_of p.old) (state_of p.new) (steps.Event (events.Query lits.now)) r) }
     ensures inside { IsBetweenLines p.new.engine p.new.events }
     ensures next { p.new.next ≤ p.old.next + 1 }
 {
@@ -87,7 +87,7 @@ fn judge_query(p: &mut Parts, lits: &[Lit]) -> Result<Option<Rule>, AllocError>
 /// Judges a status. It takes no memory.
 fn judge_status(p: &mut Parts, word: StatusWord) -> Option<Rule>
     requires { IsBetweenLines p.old.engine p.old.events }
-    ensures judged { Judged (clauses_of_engine p.old.engine) p.old.next p.old.events (clauses_of_engine p.new.engine) p.new.next p.new.events (steps.Event (events.Status word)) result }
+    ensures judged { Judged (state_of p.old) (state_of p.new) (steps.Event (events.Status word)) result }
     ensures inside { IsBetweenLines p.new.engine p.new.events }
     ensures next { p.new.next ≤ p.old.next + 1 }
 {
@@ -102,7 +102,7 @@ fn judge_status(p: &mut Parts, word: StatusWord) -> Option<Rule>
 fn judge_model(p: &mut Parts, m: &[Lit]) -> Option<Rule>
     requires inside { IsBetweenLines p.old.engine p.old.events }
     requires reserved { AreReserved p.old.events m.now }
-    ensures judged { Judged (clauses_of_engine p.old.engine) p.old.next p.old.events (clauses_of_engine p.new.engine) p.new.next p.new.events (steps.Event (events.Model m.now)) result }
+    ensures judged { Judged (state_of p.old) (state_of p.new) (steps.Event (events.Model m.now)) result }
     ensures inside { IsBetweenLines p.new.engine p.new.events }
     ensures next { p.new.next ≤ p.old.next + 1 }
 {
@@ -120,7 +120,7 @@ fn judge_model(p: &mut Parts, m: &[Lit]) -> Option<Rule>
 /// reserved.
 fn judge_core(p: &mut Parts, u: &[Lit]) -> Option<Rule>
     requires { IsBetweenLines p.old.engine p.old.events }
-    ensures judged { Judged (clauses_of_engine p.old.engine) p.old.next p.old.events (clauses_of_engine p.new.engine) p.new.next p.new.events (steps.Event (events.Core u.now)) result }
+    ensures judged { Judged (state_of p.old) (state_of p.new) (steps.Event (events.Core u.now)) result }
     ensures inside { IsBetweenLines p.new.engine p.new.events }
     ensures next { p.new.next ≤ p.old.next + 1 }
 {
@@ -142,7 +142,7 @@ fn judge_lemma(p: &mut Parts, lits: &[Lit]) -> Result<Option<Rule>, AllocError>
     requires inside { IsBetweenLines p.old.engine p.old.events }
     requires reserved { AreReserved p.old.events lits.now }
     requires next { p.old.next < 2 ^ 63 }
-    ensures judged { IfOk result (λ r. Judged (clauses_of_engine p.old.engine) p.old.next p.old.events (clauses_of_engine p.new.engine) p.new.next p.new.events (steps.Lemma lits.now) r) }
+    ensures judged { IfOk result (λ r. Judged (state_of p.old) (state_of p.new) (steps.Lemma lits.now) r) }
     ensures inside { IsBetweenLines p.new.engine p.new.events }
     ensures next { p.new.next ≤ p.old.next + 1 }
 {
@@ -161,7 +161,7 @@ fn judge_lemma(p: &mut Parts, lits: &[Lit]) -> Result<Option<Rule>, AllocError>
 /// Judges a deletion: of the least active id of the clause. It takes no memory for a clause of at most 16 literals.
 fn judge_deletion(p: &mut Parts, lits: &[Lit]) -> Result<Option<Rule>, AllocError>
     requires { IsBetweenLines p.old.engine p.old.events }
-    ensures judged { IfOk result (λ r. Judged (clauses_of_engine p.old.engine) p.old.next p.old.events (clauses_of_engine p.new.engine) p.new.next p.new.events (steps.Delete lits.now) r) }
+    ensures judged { IfOk result (λ r. Judged (state_of p.old) (state_of p.new) (steps.Delete lits.now) r) }
     ensures inside { IsBetweenLines p.new.engine p.new.events }
     ensures next { p.new.next ≤ p.old.next + 1 }
     ensures short { length lits.now ≤ 16 → IsOk result }
@@ -180,7 +180,7 @@ fn judge_deletion(p: &mut Parts, lits: &[Lit]) -> Result<Option<Rule>, AllocErro
 /// Judges a weakening: of the least active id of the clause.
 fn judge_weakening(p: &mut Parts, lits: &[Lit]) -> Result<Option<Rule>, AllocError>
     requires { IsBetweenLines p.old.engine p.old.events }
-    ensures judged { IfOk result (λ r. Judged (clauses_of_engine p.old.engine) p.old.next p.old.events (clauses_of_engine p.new.engine) p.new.next p.new.events (steps.Weaken lits.now) r) }
+    ensures judged { IfOk result (λ r. Judged (state_of p.old) (state_of p.new) (steps.Weaken lits.now) r) }
     ensures inside { IsBetweenLines p.new.engine p.new.events }
     ensures next { p.new.next ≤ p.old.next + 1 }
 {
@@ -198,7 +198,7 @@ fn judge_weakening(p: &mut Parts, lits: &[Lit]) -> Result<Option<Rule>, AllocErr
 /// Judges a restoring: of the least weakened id of the clause.
 fn judge_restoring(p: &mut Parts, lits: &[Lit]) -> Result<Option<Rule>, AllocError>
     requires { IsBetweenLines p.old.engine p.old.events }
-    ensures judged { IfOk result (λ r. Judged (clauses_of_engine p.old.engine) p.old.next p.old.events (clauses_of_engine p.new.engine) p.new.next p.new.events (steps.Restore lits.now) r) }
+    ensures judged { IfOk result (λ r. Judged (state_of p.old) (state_of p.new) (steps.Restore lits.now) r) }
     ensures inside { IsBetweenLines p.new.engine p.new.events }
     ensures next { p.new.next ≤ p.old.next + 1 }
 {
@@ -216,7 +216,7 @@ fn judge_restoring(p: &mut Parts, lits: &[Lit]) -> Result<Option<Rule>, AllocErr
 fn judge_event(p: &mut Parts, event: &Event) -> Result<Option<Rule>, AllocError>
     requires inside { IsBetweenLines p.old.engine p.old.events }
     requires next { p.old.next < 2 ^ 63 }
-    ensures judged { IfOk result (λ r. Judged (clauses_of_engine p.old.engine) p.old.next p.old.events (clauses_of_engine p.new.engine) p.new.next p.new.events (steps.Event event.now) r) }
+    ensures judged { IfOk result (λ r. Judged (state_of p.old) (state_of p.new) (steps.Event event.now) r) }
     ensures inside { IsBetweenLines p.new.engine p.new.events }
     ensures next { p.new.next ≤ p.old.next + 1 }
     ensures frugal { IsTrue (is_frugal (steps.Event event.now)) → IsOk result }
@@ -243,7 +243,7 @@ fn judge_event(p: &mut Parts, event: &Event) -> Result<Option<Rule>, AllocError>
 fn judge(p: &mut Parts, step: &Step) -> Result<Option<Rule>, AllocError>
     requires inside { IsBetweenLines p.old.engine p.old.events }
     requires next { p.old.next < 2 ^ 63 }
-    ensures judged { IfOk result (λ r. Judged (clauses_of_engine p.old.engine) p.old.next p.old.events (clauses_of_engine p.new.engine) p.new.next p.new.events step.now r) }
+    ensures judged { IfOk result (λ r. Judged (state_of p.old) (state_of p.new) step.now r) }
     ensures inside { IsBetweenLines p.new.engine p.new.events }
     ensures next { p.new.next ≤ p.old.next + 1 }
     ensures frugal { IsTrue (is_frugal step.now) → IsOk result }
@@ -264,7 +264,8 @@ fn judge(p: &mut Parts, step: &Step) -> Result<Option<Rule>, AllocError>
 ///
 /// Contracts see whether it is live, its clauses by the ids that it gave, each active or weakened with its literal set, the
 /// next id, and what its events say: the phase, the assumptions, the inputs. It stands for a list of steps where these are
-/// what the steps leave: ids are given from 1 on, and copies of a clause are counted by its set.
+/// what the steps leave: inputs and lemmas give ids from 1 on, a deletion and a weakening name the least active id of the
+/// clause's set, and a restoring the least weakened one.
 #[derive(Drop)]
 pub struct IdrupSide {
     parts: Parts,
@@ -274,7 +275,7 @@ pub struct IdrupSide {
 impl Model for IdrupSide {
     ghost use Rattle.std.specs.Prelude.{◌≤◌};
     ghost use Rattle.std.specs.Coded.{codes};
-    ghost use Rattle.side_laws.specs.Kept.{clauses_code};
+    ghost use Rattle.side_laws.specs.ClauseStates.{clauses_code};
     ghost use Rattle.pair_matcher.specs.Sides.{IdrupView};
     ghost use Rattle.pair_matcher.specs.Inside.{clauses_of_engine, IsBetweenLines};
 

@@ -8,9 +8,9 @@ ghost use Rattle.session_rules.specs.History.{phase, broken_unless};
 ghost use Rattle.session_rules.specs.Own.{id_events_of, own_id_faults};
 ghost use Rattle.session_rules.specs.Pair.{is_idle};
 ghost use Rattle.session_events.specs.State.{AreReserved};
-ghost use Rattle.side_laws.specs.Kept.{clauses_of_store};
+ghost use Rattle.side_laws.specs.ClauseStates.{clauses_of_store};
 ghost use Rattle.pair_matcher.specs.Sides.{StandsForIds, AreAfterIds, JudgedId, first_rule, takes_no_memory};
-ghost use Rattle.pair_matcher.specs.Inside.{IsInside};
+ghost use Rattle.pair_matcher.specs.Inside.{HasHintRoom, state_of_ids};
 
 use crate::literals::{greatest_variable, negate};
 use crate::turns::{delete_each, restore_each, weaken_each};
@@ -33,10 +33,10 @@ struct Parts {
 
 /// Reserves the variables of literals.
 fn reserve(p: &mut Parts, lits: &[Lit]) -> Result<(), AllocError>
-    requires { IsInside p.old.store p.old.events p.old.hints }
+    requires { HasHintRoom p.old.store p.old.events p.old.hints }
     ensures reserved { OnOk result (AreReserved p.new.events lits.now) }
-    ensures stands { (ps : List LStep) → AreAfterIds (clauses_of_store p.old.store) p.old.events ps → AreAfterIds (clauses_of_store p.new.store) p.new.events ps }
-    ensures inside { IsInside p.new.store p.new.events p.new.hints }
+    ensures stands { (ps : List LStep) → AreAfterIds (state_of_ids p.old) ps → AreAfterIds (state_of_ids p.new) ps }
+    ensures inside { HasHintRoom p.new.store p.new.events p.new.hints }
 {
     let variable = greatest_variable(lits);
     p.hints.reserve(variable)?;
@@ -46,10 +46,10 @@ fn reserve(p: &mut Parts, lits: &[Lit]) -> Result<(), AllocError>
 
 /// Judges an input.
 fn judge_input(p: &mut Parts, id: Id, lits: &[Lit]) -> Result<Option<Rule>, AllocError>
-    requires inside { IsInside p.old.store p.old.events p.old.hints }
+    requires inside { HasHintRoom p.old.store p.old.events p.old.hints }
     requires reserved { AreReserved p.old.events lits.now }
-    ensures judged { IfOk result (λ r. JudgedId (clauses_of_store p.old.store) p.old.events (clauses_of_store p.new.store) p.new.events (lsteps.Input id lits.now) r) }
-    ensures inside { IsInside p.new.store p.new.events p.new.hints }
+    ensures judged { IfOk result (λ r. JudgedId (state_of_ids p.old) (state_of_ids p.new) (lsteps.Input id lits.now) r) }
+    ensures inside { HasHintRoom p.new.store p.new.events p.new.hints }
 {
     if let Some(rule) = p.events.order_rule(Kind::Input) {
         return Ok(Some(rule));
@@ -65,10 +65,10 @@ fn judge_input(p: &mut Parts, id: Id, lits: &[Lit]) -> Result<Option<Rule>, Allo
 
 /// Judges a query.
 fn judge_query(p: &mut Parts, lits: &[Lit]) -> Result<Option<Rule>, AllocError>
-    requires inside { IsInside p.old.store p.old.events p.old.hints }
+    requires inside { HasHintRoom p.old.store p.old.events p.old.hints }
     requires reserved { AreReserved p.old.events lits.now }
-    ensures judged { IfOk result (λ r. JudgedId (clauses_of_store p.old.store) p.old.events (clauses_of_store p.new.store) p.new.events (lsteps.Query lits.now) r) }
-    ensures inside { IsInside p.new.store p.new.events p.new.hints }
+    ensures judged { IfOk result (λ r. JudgedId (state_of_ids p.old) (state_of_ids p.new) (lsteps.Query lits.now) r) }
+    ensures inside { HasHintRoom p.new.store p.new.events p.new.hints }
 {
     if let Some(rule) = p.events.order_rule(Kind::Query) {
         return Ok(Some(rule));
@@ -79,9 +79,9 @@ fn judge_query(p: &mut Parts, lits: &[Lit]) -> Result<Option<Rule>, AllocError>
 
 /// Judges a status. It takes no memory.
 fn judge_status(p: &mut Parts, word: StatusWord) -> Option<Rule>
-    requires { IsInside p.old.store p.old.events p.old.hints }
-    ensures judged { JudgedId (clauses_of_store p.old.store) p.old.events (clauses_of_store p.new.store) p.new.events (lsteps.Status word) result }
-    ensures inside { IsInside p.new.store p.new.events p.new.hints }
+    requires { HasHintRoom p.old.store p.old.events p.old.hints }
+    ensures judged { JudgedId (state_of_ids p.old) (state_of_ids p.new) (lsteps.Status word) result }
+    ensures inside { HasHintRoom p.new.store p.new.events p.new.hints }
 {
     if let Some(rule) = p.events.order_rule(Kind::Status) {
         return Some(rule);
@@ -92,10 +92,10 @@ fn judge_status(p: &mut Parts, word: StatusWord) -> Option<Rule>
 
 /// Judges a model.
 fn judge_model(p: &mut Parts, m: &[Lit]) -> Option<Rule>
-    requires inside { IsInside p.old.store p.old.events p.old.hints }
+    requires inside { HasHintRoom p.old.store p.old.events p.old.hints }
     requires reserved { AreReserved p.old.events m.now }
-    ensures judged { JudgedId (clauses_of_store p.old.store) p.old.events (clauses_of_store p.new.store) p.new.events (lsteps.Model m.now) result }
-    ensures inside { IsInside p.new.store p.new.events p.new.hints }
+    ensures judged { JudgedId (state_of_ids p.old) (state_of_ids p.new) (lsteps.Model m.now) result }
+    ensures inside { HasHintRoom p.new.store p.new.events p.new.hints }
 {
     if let Some(rule) = p.events.order_rule(Kind::Model) {
         return Some(rule);
@@ -109,10 +109,10 @@ fn judge_model(p: &mut Parts, m: &[Lit]) -> Option<Rule>
 
 /// Judges a core.
 fn judge_core(p: &mut Parts, u: &[Lit], hints: &[Id]) -> Option<Rule>
-    requires inside { IsInside p.old.store p.old.events p.old.hints }
+    requires inside { HasHintRoom p.old.store p.old.events p.old.hints }
     requires reserved { AreReserved p.old.events u.now }
-    ensures judged { JudgedId (clauses_of_store p.old.store) p.old.events (clauses_of_store p.new.store) p.new.events (lsteps.Core u.now hints.now) result }
-    ensures inside { IsInside p.new.store p.new.events p.new.hints }
+    ensures judged { JudgedId (state_of_ids p.old) (state_of_ids p.new) (lsteps.Core u.now hints.now) result }
+    ensures inside { HasHintRoom p.new.store p.new.events p.new.hints }
 {
     if let Some(rule) = p.events.order_rule(Kind::Core) {
         return Some(rule);
@@ -135,10 +135,10 @@ fn judge_lemma(
     lits: &[Lit],
     hints: &[Id],
 ) -> Result<Option<Rule>, AllocError>
-    requires inside { IsInside p.old.store p.old.events p.old.hints }
+    requires inside { HasHintRoom p.old.store p.old.events p.old.hints }
     requires reserved { AreReserved p.old.events lits.now }
-    ensures judged { IfOk result (λ r. JudgedId (clauses_of_store p.old.store) p.old.events (clauses_of_store p.new.store) p.new.events (lsteps.Lemma id lits.now hints.now) r) }
-    ensures inside { IsInside p.new.store p.new.events p.new.hints }
+    ensures judged { IfOk result (λ r. JudgedId (state_of_ids p.old) (state_of_ids p.new) (lsteps.Lemma id lits.now hints.now) r) }
+    ensures inside { HasHintRoom p.new.store p.new.events p.new.hints }
 {
     negate(&mut p.negations, lits)?;
     let end = p.hints.run(&p.store, p.negations.as_slice(), hints);
@@ -155,9 +155,9 @@ fn judge_lemma(
 
 /// Judges a deletion. It takes no memory.
 fn judge_deletion(p: &mut Parts, ids: &[Id]) -> Option<Rule>
-    requires { IsInside p.old.store p.old.events p.old.hints }
-    ensures judged { JudgedId (clauses_of_store p.old.store) p.old.events (clauses_of_store p.new.store) p.new.events (lsteps.Delete ids.now) result }
-    ensures inside { IsInside p.new.store p.new.events p.new.hints }
+    requires { HasHintRoom p.old.store p.old.events p.old.hints }
+    ensures judged { JudgedId (state_of_ids p.old) (state_of_ids p.new) (lsteps.Delete ids.now) result }
+    ensures inside { HasHintRoom p.new.store p.new.events p.new.hints }
 {
     match delete_each(&mut p.store, ids) {
         Some(place) => Some(Rule::NotActive(place)),
@@ -167,9 +167,9 @@ fn judge_deletion(p: &mut Parts, ids: &[Id]) -> Option<Rule>
 
 /// Judges a weakening.
 fn judge_weakening(p: &mut Parts, ids: &[Id]) -> Result<Option<Rule>, AllocError>
-    requires { IsInside p.old.store p.old.events p.old.hints }
-    ensures judged { IfOk result (λ r. JudgedId (clauses_of_store p.old.store) p.old.events (clauses_of_store p.new.store) p.new.events (lsteps.Weaken ids.now) r) }
-    ensures inside { IsInside p.new.store p.new.events p.new.hints }
+    requires { HasHintRoom p.old.store p.old.events p.old.hints }
+    ensures judged { IfOk result (λ r. JudgedId (state_of_ids p.old) (state_of_ids p.new) (lsteps.Weaken ids.now) r) }
+    ensures inside { HasHintRoom p.new.store p.new.events p.new.hints }
 {
     match weaken_each(&mut p.store, ids) {
         Ok(Some(place)) => Ok(Some(Rule::NotActive(place))),
@@ -180,9 +180,9 @@ fn judge_weakening(p: &mut Parts, ids: &[Id]) -> Result<Option<Rule>, AllocError
 
 /// Judges a restoring.
 fn judge_restoring(p: &mut Parts, ids: &[Id]) -> Result<Option<Rule>, AllocError>
-    requires { IsInside p.old.store p.old.events p.old.hints }
-    ensures judged { IfOk result (λ r. JudgedId (clauses_of_store p.old.store) p.old.events (clauses_of_store p.new.store) p.new.events (lsteps.Restore ids.now) r) }
-    ensures inside { IsInside p.new.store p.new.events p.new.hints }
+    requires { HasHintRoom p.old.store p.old.events p.old.hints }
+    ensures judged { IfOk result (λ r. JudgedId (state_of_ids p.old) (state_of_ids p.new) (lsteps.Restore ids.now) r) }
+    ensures inside { HasHintRoom p.new.store p.new.events p.new.hints }
 {
     match restore_each(&mut p.store, ids) {
         Ok(Some(place)) => Ok(Some(Rule::NotWeakened(place))),
@@ -193,9 +193,9 @@ fn judge_restoring(p: &mut Parts, ids: &[Id]) -> Result<Option<Rule>, AllocError
 
 /// Judges a step.
 fn judge(p: &mut Parts, step: &LStep) -> Result<Option<Rule>, AllocError>
-    requires { IsInside p.old.store p.old.events p.old.hints }
-    ensures judged { IfOk result (λ r. JudgedId (clauses_of_store p.old.store) p.old.events (clauses_of_store p.new.store) p.new.events step.now r) }
-    ensures inside { IsInside p.new.store p.new.events p.new.hints }
+    requires { HasHintRoom p.old.store p.old.events p.old.hints }
+    ensures judged { IfOk result (λ r. JudgedId (state_of_ids p.old) (state_of_ids p.new) step.now r) }
+    ensures inside { HasHintRoom p.new.store p.new.events p.new.hints }
     ensures frugal { IsTrue (takes_no_memory step.now) → IsOk result }
 {
     match step {
@@ -237,11 +237,11 @@ pub struct LidrupSide {
 }
 
 impl Model for LidrupSide {
-    ghost use Rattle.side_laws.specs.Kept.{clauses_of_store};
+    ghost use Rattle.side_laws.specs.ClauseStates.{clauses_of_store};
     ghost use Rattle.pair_matcher.specs.Sides.{LidrupView};
-    ghost use Rattle.pair_matcher.specs.Inside.{IsInside};
+    ghost use Rattle.pair_matcher.specs.Inside.{HasHintRoom};
     ghost use Rattle.std.specs.Coded.{codes};
-    ghost use Rattle.side_laws.specs.Kept.{clauses_code};
+    ghost use Rattle.side_laws.specs.ClauseStates.{clauses_code};
 
     ghost Value = { LidrupView };
 
@@ -249,7 +249,7 @@ impl Model for LidrupSide {
 
     ghost view = { λ s. record { live = s.live; clauses = clauses_of_store s.parts.store; events = s.parts.events } };
 
-    ghost invariant = { λ s. IsInside s.parts.store s.parts.events s.parts.hints };
+    ghost invariant = { λ s. HasHintRoom s.parts.store s.parts.events s.parts.hints };
 }
 
 impl LidrupSide {

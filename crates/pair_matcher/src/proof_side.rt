@@ -6,7 +6,8 @@ ghost use Rattle.lits.specs.Literal.{max_var, var};
 ghost use Rattle.outside.specs.Faults.{Rose};
 ghost use Rattle.session_rules.specs.declared.Rule.TheVariants as rules;
 ghost use Rattle.session_rules.specs.declared.LineFault.{LineFault};
-ghost use Rattle.session_rules.specs.History.{phase, assumed, broken_unless};
+ghost use Rattle.session_rules.specs.History.{phase, broken_unless};
+ghost use Rattle.session_rules.specs.History as history;
 ghost use Rattle.session_rules.specs.Pair.{ProofForm, is_idle, without_ids, with_ids};
 ghost use Rattle.slice_tokens.specs.Place.{ahead, WhereTold};
 ghost use Rattle.slice_tokens.specs.Calls.{Moves};
@@ -39,7 +40,7 @@ pub trait ProofSide: Drop {
     ghost next: { Self → ℕ };
 
     /// The literals of the last query.
-    ghost asked: { Self → List ℕ };
+    ghost assumed: { Self → List ℕ };
 
     /// The side before the first step.
     fn start(alloc: Global) -> Result<Self, AllocError>
@@ -74,14 +75,14 @@ pub trait ProofSide: Drop {
         ensures { (ps : List Self.Step) → stands self.now ps → result ≡ first_rule (broken_unless (is_idle (phase (filter_map form.event ps))) rules.Unfinished) };
 
     /// The literals of the last query.
-    fn last_query(&self) -> &[Lit]
-        ensures value { result.now ≡ asked self.now }
-        ensures assumed { (ps : List Self.Step) → stands self.now ps → asked self.now ≡ assumed (filter_map form.event ps) };
+    fn assumptions(&self) -> &[Lit]
+        ensures value { result.now ≡ assumed self.now }
+        ensures last { (ps : List Self.Step) → stands self.now ps → assumed self.now ≡ history.assumed (filter_map form.event ps) };
 
     /// A variable that none of these literals is beyond.
     fn greatest(&self) -> u32
         ensures limit { result ≤ max_var }
-        ensures asked { All (λ l. var l ≤ result) (asked self.now) };
+        ensures assumed { All (λ l. var l ≤ result) (assumed self.now) };
 
     /// The event of a step, where it is one. Lists of the step that aren't the event's are spare from then on.
     fn into_event(step: Self::Step, spare: &mut Spare) -> Option<Event>
@@ -99,7 +100,7 @@ impl ProofSide for IdrupSide {
 
     ghost next = { λ s. s.next };
 
-    ghost asked = { λ s. s.events.assumed };
+    ghost assumed = { λ s. s.events.assumed };
 
     fn start(alloc: Global) -> Result<IdrupSide, AllocError> {
         IdrupSide::new(alloc)
@@ -121,7 +122,7 @@ impl ProofSide for IdrupSide {
         self.finish()
     }
 
-    fn last_query(&self) -> &[Lit] {
+    fn assumptions(&self) -> &[Lit] {
         self.assumed()
     }
 
@@ -151,7 +152,7 @@ impl ProofSide for LidrupSide {
 
     ghost next = { λ s. 0 };
 
-    ghost asked = { λ s. s.events.assumed };
+    ghost assumed = { λ s. s.events.assumed };
 
     fn start(alloc: Global) -> Result<LidrupSide, AllocError> {
         LidrupSide::new(alloc)
@@ -173,7 +174,7 @@ impl ProofSide for LidrupSide {
         self.finish()
     }
 
-    fn last_query(&self) -> &[Lit] {
+    fn assumptions(&self) -> &[Lit] {
         self.assumed()
     }
 

@@ -5,7 +5,7 @@ ghost use Rattle.std.specs.Prelude.{ℕ, IfOk};
 ghost use Rattle.session_rules.specs.declared.LStep.TheVariants as lsteps;
 ghost use Rattle.session_rules.specs.declared.Standing.TheVariants.{Active, Weakened, Absent};
 ghost use Rattle.session_rules.specs.Own.{is_active, is_weakened};
-ghost use Rattle.side_laws.specs.Kept.{clauses_of_store, AreWithin};
+ghost use Rattle.side_laws.specs.ClauseStates.{clauses_of_store, AreWithin};
 ghost use Rattle.pair_matcher.specs.Turns.{Turned};
 
 use clause_store::{Store, StoreFault};

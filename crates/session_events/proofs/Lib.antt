@@ -1,3 +1,3 @@
-pub mod Marking
+pub mod Ticking
 pub mod Regions
 pub mod Standing

@@ -1,4 +1,4 @@
 pub mod State
 pub mod Pieces
-pub mod Marks
-pub mod Kept
+pub mod Ticks
+pub mod Room

@@ -2,10 +2,10 @@
 
 ghost use Rattle.std.specs.Prelude.{◌≡◌, ◌++◌, ◌∷◌, [], length, not, All, OnOk, OnErr};
 ghost use Rattle.std.specs.List.{list_any, position_from};
-ghost use Rattle.session_events.specs.Marks.{is_marked, HasPlace};
+ghost use Rattle.session_events.specs.Ticks.{is_ticked, HasPlace};
 ghost use Rattle.session_events.specs.Pieces.{pieces, ReachesFrom};
 
-use crate::marks::any_marked;
+use crate::ticks::any_ticked;
 use lits::Lit;
 use std::alloc::{AllocError, Global};
 use std::marker::Model;
@@ -55,25 +55,25 @@ impl ClauseList {
         }
     }
 
-    /// The number, from 1 on, of the first clause of which no literal is marked.
-    pub(crate) fn first_unmet(&self, marks: &[bool]) -> Option<u64>
-        requires { All (λ c. All (HasPlace (length marks.now)) c) self.now }
-        ensures { result ≡ position_from (λ c. not (list_any (is_marked marks.now) c)) 1 self.now }
+    /// The number, from 1 on, of the first clause of which no literal is ticked.
+    pub(crate) fn first_unmet(&self, ticks: &[bool]) -> Option<u64>
+        requires { All (λ c. All (HasPlace (length ticks.now)) c) self.now }
+        ensures { result ≡ position_from (λ c. not (list_any (is_ticked ticks.now) c)) 1 self.now }
     {
-        first_unmet(marks, &self.literals, &self.ends)
+        first_unmet(ticks, &self.literals, &self.ends)
     }
 }
 
-/// The number, from 1 on, of the first of the clauses that lie one behind another, of which no literal is marked.
-fn first_unmet(marks: &[bool], literals: &[Lit], ends: &[usize]) -> Option<u64>
+/// The number, from 1 on, of the first of the clauses that lie one behind another, of which no literal is ticked.
+fn first_unmet(ticks: &[bool], literals: &[Lit], ends: &[usize]) -> Option<u64>
     requires reach { ReachesFrom 0 ends.now (length literals.now) }
-    requires place { All (λ c. All (HasPlace (length marks.now)) c) (pieces literals.now 0 ends.now) }
-    ensures { result ≡ position_from (λ c. not (list_any (is_marked marks.now) c)) 1 (pieces literals.now 0 ends.now) }
+    requires place { All (λ c. All (HasPlace (length ticks.now)) c) (pieces literals.now 0 ends.now) }
+    ensures { result ≡ position_from (λ c. not (list_any (is_ticked ticks.now) c)) 1 (pieces literals.now 0 ends.now) }
 {
     let mut start = 0;
     for i in 0..ends.len() {
         let end = ends[i];
-        if !any_marked(marks, &literals[start..end]) {
+        if !any_ticked(ticks, &literals[start..end]) {
             return Some(i as u64 + 1);
         }
         start = end;

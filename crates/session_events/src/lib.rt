@@ -2,18 +2,18 @@
 //!
 //! `Events` takes the events of a proof one after another. Before each it says the first rule that the event breaks: it
 //! doesn't fit the phase, a model clashes with itself or misses an assumption or an input, a core has a stranger. Models
-//! and cores are marked in a table by the literals' codes, so that each list is gone through once; the inputs lie one
+//! and cores are ticked in a table by the literals' codes, so that each list is gone through once; the inputs lie one
 //! behind another in one list of literals.
 #![tactic(auto)]
 
-ghost use Rattle.std.specs.Prelude.{◌≡◌, ◌≤◌, ◌∷◌, ◌++◌, ℕ, [], List, slice_get, OnOk, OnErr, IfNone};
+ghost use Rattle.std.specs.Prelude.{◌≡◌, ◌≤◌, ◌∷◌, ◌++◌, ℕ, [], List, slice_get, IsOk, OnOk, OnErr, IfNone};
 ghost use Rattle.lits.specs.Literal.{max_var};
 ghost use Rattle.session_rules.specs.History.{phase_told};
 ghost use Rattle.session_events.specs.State.{StandsFor, AreReserved, start, with_reserved, behind, kind_of, fits, order_rules, model_rules, core_rules};
 
 mod clause_list;
 mod laws;
-mod marks;
+mod ticks;
 mod rules;
 #[cfg(test)]
 mod tests;
@@ -72,19 +72,19 @@ pub struct Events {
     phase: Phase,
     assumed: Vec<Lit>,
     inputs: ClauseList,
-    marks: Vec<bool>,
+    ticks: Vec<bool>,
     reserved: u32,
 }
 
 impl Model for Events {
     ghost use Rattle.session_events.specs.State.{State};
-    ghost use Rattle.session_events.specs.Kept.{IsKept};
+    ghost use Rattle.session_events.specs.Room.{HasRoom};
 
     ghost Value = { State };
 
     ghost view = { λ e. record { phase = e.phase; assumed = e.assumed.items; inputs = e.inputs; reserved = e.reserved } };
 
-    ghost invariant = { λ e. IsKept e.marks.items e.assumed.items e.inputs e.reserved };
+    ghost invariant = { λ e. HasRoom e.ticks.items e.assumed.items e.inputs e.reserved };
 }
 
 impl Events {
@@ -97,22 +97,24 @@ impl Events {
             phase: Phase::Idle,
             assumed: Vec::new(alloc),
             inputs: ClauseList::new(alloc),
-            marks: Vec::new(alloc),
+            ticks: Vec::new(alloc),
             reserved: 0,
         }
     }
 
-    /// Reserves the variables up to this one. An error, which means want of memory, leaves all as it was.
+    /// Reserves the variables up to this one. It takes no memory where they are reserved already; an error, which means that
+    /// memory was wanting, leaves all as it was.
     pub fn reserve(&mut self, vars: u32) -> Result<(), AllocError>
         requires { vars ≤ max_var }
         ensures ok { OnOk result (self.new ≡ with_reserved self.old vars) }
         ensures err { OnErr result (self.new ≡ self.old) }
+        ensures enough { vars ≤ self.old.reserved → IsOk result }
         ensures stands { (es : List Event) → StandsFor self.old es → StandsFor self.new es }
     {
         if vars <= self.reserved {
             return Ok(());
         }
-        self.marks.resize(2 * vars as usize, false)?;
+        self.ticks.resize(2 * vars as usize, false)?;
         self.reserved = vars;
         Ok(())
     }
@@ -161,7 +163,7 @@ impl Events {
     {
         let assumed = self.assumed.as_slice();
         let inputs = &self.inputs;
-        rules::of_model(self.marks.as_mut_slice(), assumed, inputs, m)
+        rules::of_model(self.ticks.as_mut_slice(), assumed, inputs, m)
     }
 
     /// CoreStranger with the first literal of a core that isn't one of the last query, or `None` where there is none, and
@@ -172,7 +174,7 @@ impl Events {
         ensures unchanged { self.new ≡ self.old }
     {
         let assumed = self.assumed.as_slice();
-        rules::of_core(self.marks.as_mut_slice(), assumed, u)
+        rules::of_core(self.ticks.as_mut_slice(), assumed, u)
     }
 
     /// Takes an input. An error, which means want of memory, leaves all as it was.

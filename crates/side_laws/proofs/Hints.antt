@@ -1,10 +1,10 @@
 -- Hints look at the sets of clauses alone.
-use Rattle.std.proofs.Common.{◌≡◌, ℕ, ◌+◌, Bool, true, false, not, nat_eq, List, [], ◌∷◌, filter, Contains, Option, Some, None, option_map, refl, sym, ◌∙◌, ap, subst, inl, inr, eqb-true, eq-eqb}
+use Rattle.std.proofs.Common.{◌≡◌, ℕ, ◌+◌, true, not, nat_eq, List, [], ◌∷◌, filter, Contains, Option, Some, None, option_map, refl, sym, ◌∙◌, ap, subst, inl, inr, eqb-true, eq-eqb}
 use Rattle.std.specs.List.{list_all}
-use Rattle.std.proofs.lemmas.Bool.{and_parts, and_from, cases_Bool, both_ways, not_from_false, not-true}
+use Rattle.std.proofs.lemmas.Bool.{and_from, cases_Bool, both_ways}
 use Rattle.lits.specs.Literal.{neg}
-use Rattle.lits.specs.Clause.{has, same_set, set_of}
-use Rattle.lits.proofs.Members.{here, there, not_in_nil, here_or_there, all_at, all_from, filter_from, filter_at, has_at, has_from}
+use Rattle.lits.specs.Clause.{has, same_set}
+use Rattle.lits.proofs.Members.{here, there, not_in_nil, all_at, all_from, filter_from, filter_at, has_at, has_from}
 use Rattle.lits.proofs.Sets.{same_at}
 use Rattle.session_rules.specs.declared.Left.{Left}
 use Rattle.session_rules.specs.declared.Left.TheVariants.{Falsified, UnitLiteral, Open}

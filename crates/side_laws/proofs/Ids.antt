@@ -1,5 +1,5 @@
 -- What each step with ids changes of the clauses that are held.
-use Rattle.std.proofs.Common.{◌≡◌, ◌≢◌, ℕ, ◌+◌, ◌⊎◌, Bool, if◌then◌else◌, true, false, nat_eq, List, [], ◌∷◌, ◌++◌, map, filter, filter_map, flat_map, Option, Some, None, refl, sym, ◌∙◌, ap, subst, inl, inr, eq-eqb, ne_eqb, append_assoc, append-nil}
+use Rattle.std.proofs.Common.{◌≡◌, ◌≢◌, ℕ, ◌+◌, Bool, if◌then◌else◌, true, false, nat_eq, List, [], ◌∷◌, ◌++◌, filter, filter_map, flat_map, Option, Some, None, refl, sym, ◌∙◌, ap, inl, inr, eq-eqb, ne_eqb, append_assoc, append-nil}
 use Rattle.std.specs.Prelude.{option_map}
 use Rattle.std.specs.List.{last_or}
 use Rattle.std.proofs.lemmas.Option.{same_Some}
@@ -16,8 +16,8 @@ use Rattle.session_rules.specs.declared.LStep.TheVariants as lsteps
 use Rattle.session_rules.specs.declared.Standing.{Standing}
 use Rattle.session_rules.specs.declared.Standing.TheVariants.{Active, Weakened, Absent}
 use Rattle.session_rules.specs.History.{last}
-use Rattle.session_rules.specs.Own.{is_active, is_weakened, is_absent, each_is, mentions, standing, standing_after, given_clause, clause_or_none, clause_of, active_clause, first_not}
-use Rattle.side_laws.specs.Kept.{Kept, Clauses, kept, standing_of, active_literals, active_in, ChangesAt}
+use Rattle.session_rules.specs.Own.{is_active, each_is, mentions, standing, standing_after, given_clause, clause_or_none, clause_of, active_clause, first_not}
+use Rattle.side_laws.specs.ClauseStates.{ClauseState, Clauses, kept, standing_of, active_literals, active_in, ChangesAt}
 use Rattle.session_rules.specs.Logic.{hints_fail}
 use Rattle.side_laws.specs.Ids.{HoldsIds, same_clause, SameClauses}
 use Rattle.side_laws.proofs.Hints.{hints-same}
@@ -96,7 +96,7 @@ module _ (step : List ℕ → LStep) (s : Standing) (gives : (is : List ℕ) →
   same_clause_of id = ap (λ gs. clause_or_none (last (filter (λ (p : ℕ × List ℕ). nat_eq p.0 id) gs)))
       (given-push ps (step (is ++ i ∷ [])) (gives (is ++ i ∷ [])) ∙ sym (given-push ps (step is) (gives is)))
 
-  pub holds_named : (now : Option Kept) → ChangesAt m n i now → standing_of now ≡ s → ((k : Kept) → now ≡ Some k → (old : Kept) × (get m i ≡ Some old) × (old.literals ≡ k.literals))
+  pub holds_named : (now : Option ClauseState) → ChangesAt m n i now → standing_of now ≡ s → ((k : ClauseState) → now ≡ Some k → (old : ClauseState) × (get m i ≡ Some old) × (old.literals ≡ k.literals))
       → HoldsIds m (ps ++ step is ∷ []) → HoldsIds n (ps ++ step (is ++ i ∷ []) ∷ [])
   holds_named now change stands from h = record {
     standings = λ id. elim (same_or_other id i) [
@@ -158,7 +158,7 @@ active-same m ps h = λ id. at (get m id) (standing_after ps id) (clause_of ps i
     at_kept true ls s o e f = active_some s o ls e f
     at_kept false ls s o e f = weakened_none s o e
 
-    at : (k : Option Kept) (s : Standing) (o : Option (List ℕ)) → standing_of k ≡ s → ((x : Kept) → k ≡ Some x → option_map set_of o ≡ Some x.literals)
+    at : (k : Option ClauseState) (s : Standing) (o : Option (List ℕ)) → standing_of k ≡ s → ((x : ClauseState) → k ≡ Some x → option_map set_of o ≡ Some x.literals)
         → same_clause (active_literals k) (active_as s o) ≡ true
     at None s o e f = absent_none s o e
     at (Some k) s o e f = at_kept k.active k.literals s o e (f k refl)

@@ -2,7 +2,8 @@ pub mod Maps
 pub mod Ids
 pub mod Hints
 pub mod Closing
-pub mod Counting
+pub mod Given
 pub mod Held
+pub mod Named
 pub mod Stores
 pub mod Turns

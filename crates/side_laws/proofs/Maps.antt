@@ -1,12 +1,12 @@
 -- The clauses of a map, and what one insertion or removal changes.
-use Rattle.std.proofs.Common.{◌≡◌, ◌≢◌, ℕ, ◌⊎◌, List, [], ◌∷◌, map, Option, Some, None, cond, true, false, refl, sym, ap, ◌∙◌, inl, inr, arith}
+use Rattle.std.proofs.Common.{◌≡◌, ◌≢◌, ℕ, ◌⊎◌, List, [], ◌∷◌, map, Some, None, true, false, refl, sym, ap, ◌∙◌, inl, inr, arith}
 use Rattle.std.specs.Prelude.{option_map}
 use Rattle.std.proofs.lemmas.Bool.{cases_Bool}
 use Rattle.std.proofs.lemmas.Bool.Decides.{nat_tests}
 use Rattle.std.specs.Ordering.{nat_cmp, eq_by_cmp}
 use Rattle.std.specs.Cmp.{nat_cmp_total}
 use Rattle.std.specs.FinMap.{FinMap, get, entries, find, empty, insert, remove, get-entries, get-from_entries, get-insert, get-remove, get-empty}
-use Rattle.side_laws.specs.Kept.{Kept, Clauses, kept_by, ChangesAt}
+use Rattle.side_laws.specs.ClauseStates.{ClauseState, kept_by, ChangesAt}
 
 pub same_id : (q : ℕ) → eq_by_cmp nat_cmp q q ≡ true
 same_id q = grind (arith, nat_tests)
@@ -17,7 +17,7 @@ other_id q k ne = grind (arith, nat_tests)
 pub same_or_other : (q i : ℕ) → (q ≡ i) ⊎ (q ≢ i)
 same_or_other q i = grind arith
 
-module _ {X : Type 0} (view : X → Kept) where
+module _ {X : Type 0} (view : X → ClauseState) where
   find-map : (es : List (ℕ × X)) (q : ℕ) → find nat_cmp q (map (λ e. (e.0, view e.1)) es) ≡ option_map view (find nat_cmp q es)
   find-map [] q = refl
   find-map (e ∷ es) q = elim (cases_Bool (eq_by_cmp nat_cmp q e.0)) [

@@ -1,17 +1,14 @@
 -- How the clauses of a store stand, by the store's own tests.
-use Rattle.std.proofs.Common.{◌≡◌, ◌≢◌, ℕ, ◌≤◌, ◌⊎◌, Bool, true, false, not, ◌&&◌, if◌then◌else◌, List, [], Contains, Option, Some, None, refl, sym, ap, ◌∙◌, subst, inl, inr}
+use Rattle.std.proofs.Common.{◌≡◌, ℕ, ◌≤◌, Bool, true, false, not, ◌&&◌, if◌then◌else◌, List, [], Contains, Option, Some, None, refl, sym, ap, ◌∙◌, inl, inr}
 use Rattle.std.specs.Prelude.{is_some, option_map, option_and_then, unwrap_or}
-use Rattle.std.specs.Ordering.{nat_cmp}
 use Rattle.std.specs.FinMap as finmap
 use Rattle.std.specs.FinMap.{get, empty}
 use Rattle.lits.specs.Literal.{var}
 use Rattle.lits.specs.Clause.{set_of}
-use Rattle.session_rules.specs.declared.Standing.{Standing}
-use Rattle.session_rules.specs.declared.Standing.TheVariants.{Active, Weakened, Absent}
 use Rattle.session_rules.specs.Own as own
 use Rattle.clause_store.specs.Clauses as store
 use Rattle.clause_store.specs.Clauses.{Held, Place, Store, slot_at, literals_at, is_held}
-use Rattle.side_laws.specs.Kept.{Kept, Clauses, kept, kept_by, kept_of_held, clauses_of_store, standing_of, active_literals, active_in, AreWithin, ChangesAt}
+use Rattle.side_laws.specs.ClauseStates.{ClauseState, Clauses, kept, kept_of_held, clauses_of_store, standing_of, active_literals, active_in, AreWithin, ChangesAt}
 use Rattle.side_laws.proofs.Maps.{get-kept_by, empty-kept_by, changes-insert, changes-remove, same_or_other}
 
 active_by_place : (ls : List ℕ) (p : Option Place) → is_some (option_map (λ (q : Place). q.slot) p) ≡ own.is_active (standing_of (Some (kept (is_some p) ls)))
@@ -95,8 +92,8 @@ active_in-store m id = by_held (get m id) ∙ ap active_literals (sym (get-kept_
 
 -- ---- Variables
 
-pub within-change : (m n : Clauses) (id vars : ℕ) (now : Option Kept) → ChangesAt m n id now
-    → ((k : Kept) → now ≡ Some k → (l : ℕ) → Contains k.literals l → var l ≤ vars) → AreWithin m vars → AreWithin n vars
+pub within-change : (m n : Clauses) (id vars : ℕ) (now : Option ClauseState) → ChangesAt m n id now
+    → ((k : ClauseState) → now ≡ Some k → (l : ℕ) → Contains k.literals l → var l ≤ vars) → AreWithin m vars → AreWithin n vars
 within-change m n id vars now change new h = λ x k e. elim (same_or_other x id) [
   | inl y ↦ new k (sym change.there ∙ ap (get n) (sym y) ∙ e)
   | inr ne ↦ h x k (sym (change.others x ne) ∙ e)

@@ -1,16 +1,12 @@
 -- Going through a list of ids in turn: what is held after some of them, and where the first id is that isn't so.
-use Rattle.std.proofs.Common.{◌≡◌, ℕ, suc, ◌+◌, ◌<◌, ◌≤◌, Bool, true, false, if◌then◌else◌, List, [], ◌∷◌, ◌++◌, length, take, drop, get_or, flat_map, map, Option, Some, None, refl, sym, ap, ◌∙◌, subst, arith, append-nil, append_assoc, add-one, length-drop}
+use Rattle.std.proofs.Common.{◌≡◌, ℕ, suc, ◌+◌, ◌<◌, ◌≤◌, Bool, true, false, if◌then◌else◌, List, [], ◌∷◌, ◌++◌, length, take, drop, get_or, flat_map, Some, None, refl, sym, ap, ◌∙◌, subst, arith, append-nil, append_assoc, add-one, length-drop}
 use Rattle.std.proofs.Math.Seq.{take-suc, drop-cons}
-use Rattle.std.proofs.lemmas.Grind.{flat_map-append}
 use Rattle.std.proofs.lemmas.List.{map-append, take_all, nil_from_length}
-use Rattle.std.specs.Ordering.{nat_cmp}
 use Rattle.std.specs.FinMap.{get}
 use Rattle.session_rules.specs.declared.LStep.{LStep}
-use Rattle.session_rules.specs.declared.LStep.TheVariants as lsteps
 use Rattle.session_rules.specs.declared.Standing.{Standing}
-use Rattle.session_rules.specs.declared.Standing.TheVariants.{Active, Weakened, Absent}
 use Rattle.session_rules.specs.Own.{each_is, mentions, given_clause, first_not}
-use Rattle.side_laws.specs.Kept.{Kept, Clauses, standing_of, AreWithin}
+use Rattle.side_laws.specs.ClauseStates.{Clauses, standing_of, AreWithin}
 use Rattle.side_laws.specs.Ids.{HoldsIds}
 use Rattle.side_laws.proofs.Ids.{holds_silent, mentions-push, first_not-named}
 

@@ -4,12 +4,12 @@ use Rattle.std.specs.FinMap.{get}
 use Rattle.lits.specs.Clause.{same_set, set_of}
 use Rattle.session_rules.specs.declared.LStep.{LStep}
 use Rattle.session_rules.specs.Own.{standing_after, clause_of}
-use Rattle.side_laws.specs.Kept.{Kept, Clauses, standing_of}
+use Rattle.side_laws.specs.ClauseStates.{ClauseState, Clauses, standing_of}
 
 -- each id stands as the steps leave it, and of one that isn't absent the set of the clause is kept that was given last
 pub record HoldsIds (m : Clauses) (ps : List LStep) : Type 0 where
   pub standings : (id : ℕ) → standing_of (get m id) ≡ standing_after ps id
-  pub literals : (id : ℕ) (k : Kept) → get m id ≡ Some k → option_map set_of (clause_of ps id) ≡ Some k.literals
+  pub literals : (id : ℕ) (k : ClauseState) → get m id ≡ Some k → option_map set_of (clause_of ps id) ≡ Some k.literals
 
 -- whether both have the same set, or there is neither
 abbrev pub same_clause : Option (List ℕ) → Option (List ℕ) → Bool

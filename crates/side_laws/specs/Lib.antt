@@ -1,3 +1,3 @@
-pub mod Kept
+pub mod ClauseStates
 pub mod Ids
 pub mod Sets

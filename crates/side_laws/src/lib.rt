@@ -12,10 +12,10 @@ ghost use Rattle.session_rules.specs.declared.LStep.{LStep};
 ghost use Rattle.session_rules.specs.declared.LStep.TheVariants as lsteps;
 ghost use Rattle.session_rules.specs.declared.Standing.TheVariants.{Active};
 ghost use Rattle.session_rules.specs.Logic.{closes, hints_fail};
-ghost use Rattle.session_rules.specs.Own.{added_clause, removed_clause, weakened_clause, restored_clause, active_copies, weakened_copies, active_clauses, given_clause, mentions, active_clause};
-ghost use Rattle.side_laws.specs.Kept.{Clauses, kept, active_in, ChangesAt};
+ghost use Rattle.session_rules.specs.Own.{added_clause, removed_clause, weakened_clause, restored_clause, active_copies, weakened_copies, active_clauses, given_clause, mentions, active_clause, is_active, is_weakened};
+ghost use Rattle.side_laws.specs.ClauseStates.{Clauses, kept, active_in, ChangesAt};
 ghost use Rattle.side_laws.specs.Ids.{HoldsIds, SameClauses};
-ghost use Rattle.side_laws.specs.Sets.{new_clause, HoldsSets, SetsAmong, AreActive};
+ghost use Rattle.side_laws.specs.Sets.{new_clause, given_by, named_id, how_many, IsLeastSuch, LeavesOthers, HoldsSets, IsLeast, SetsAmong, AreActive};
 
 /// A side with no clause holds the clauses of no step; a step that gives a clause makes it active under its id.
 pub fn given_clauses_are_active()
@@ -46,19 +46,37 @@ pub fn closing_looks_at_sets()
     ensures { (cs ds : List (List ℕ)) (ls : List ℕ) → SetsAmong cs ds → SetsAmong ds cs → closes cs ls ≡ closes ds ls }
 {}
 
-/// Of each clause as many copies are kept, active and weakened, as steps without ids leave: what each kind of step changes.
-pub fn copies_are_kept()
+/// Of each id is kept what steps without ids leave: what each kind of step changes. A deletion and a weakening change the least
+/// active id of the clause's set, and a restoring the least weakened one.
+pub fn least_ids_change()
     ensures nothing { HoldsSets empty 1 [] }
-    ensures silent { (m : Clauses) (next : ℕ) (ps : List Step) (p : Step) → new_clause p ≡ None → added_clause p ≡ None → removed_clause p ≡ None
-        → weakened_clause p ≡ None → restored_clause p ≡ None → HoldsSets m next ps → HoldsSets m next (ps ++ p ∷ []) }
-    ensures given { (m n : Clauses) (next : ℕ) (ps : List Step) (p : Step) (c : List ℕ) → new_clause p ≡ Some c → added_clause p ≡ Some c → removed_clause p ≡ None
-        → weakened_clause p ≡ None → restored_clause p ≡ None → ChangesAt m n next (Some (kept true (set_of c))) → HoldsSets m next ps → HoldsSets n (next + 1) (ps ++ p ∷ []) }
-    ensures deleted { (m n : Clauses) (next : ℕ) (ps : List Step) (c : List ℕ) (id : ℕ) (ls : List ℕ) → IsTrue (same_set c ls) → HoldsSets m next ps
-        → get m id ≡ Some (kept true ls) → ChangesAt m n id None → HoldsSets n next (ps ++ steps.Delete c ∷ []) }
-    ensures weakened { (m n : Clauses) (next : ℕ) (ps : List Step) (c : List ℕ) (id : ℕ) (ls : List ℕ) → IsTrue (same_set c ls) → HoldsSets m next ps
-        → get m id ≡ Some (kept true ls) → ChangesAt m n id (Some (kept false ls)) → HoldsSets n next (ps ++ steps.Weaken c ∷ []) }
-    ensures restored { (m n : Clauses) (next : ℕ) (ps : List Step) (c : List ℕ) (id : ℕ) (ls : List ℕ) → IsTrue (same_set c ls) → HoldsSets m next ps
-        → get m id ≡ Some (kept false ls) → ChangesAt m n id (Some (kept true ls)) → HoldsSets n next (ps ++ steps.Restore c ∷ []) }
+    ensures silent { (m : Clauses) (next : ℕ) (ps : List Step) (p : Step) → new_clause p ≡ None → removed_clause p ≡ None → restored_clause p ≡ None
+        → HoldsSets m next ps → HoldsSets m next (ps ++ p ∷ []) }
+    ensures given { (m n : Clauses) (next : ℕ) (ps : List Step) (p : Step) (c : List ℕ) → new_clause p ≡ Some c
+        → ChangesAt m n next (Some (kept true (set_of c))) → HoldsSets m next ps → HoldsSets n (next + 1) (ps ++ p ∷ []) }
+    ensures deleted { (m n : Clauses) (next : ℕ) (ps : List Step) (c : List ℕ) (id : ℕ) (ls : List ℕ) → HoldsSets m next ps
+        → IsLeast m true c id ls → ChangesAt m n id None → HoldsSets n next (ps ++ steps.Delete c ∷ []) }
+    ensures weakened { (m n : Clauses) (next : ℕ) (ps : List Step) (c : List ℕ) (id : ℕ) (ls : List ℕ) → HoldsSets m next ps
+        → IsLeast m true c id ls → ChangesAt m n id (Some (kept false ls)) → HoldsSets n next (ps ++ steps.Weaken c ∷ []) }
+    ensures restored { (m n : Clauses) (next : ℕ) (ps : List Step) (c : List ℕ) (id : ℕ) (ls : List ℕ) → HoldsSets m next ps
+        → IsLeast m false c id ls → ChangesAt m n id (Some (kept true ls)) → HoldsSets n next (ps ++ steps.Restore c ∷ []) }
+{}
+
+/// A deletion and a weakening name the least active id of the clause's set, a restoring the least weakened one, and an input and
+/// a lemma the next id. Each changes its id alone. As many ids stand so as the steps leave copies of a clause.
+pub fn steps_name_ids()
+    ensures deleted { (ps : List Step) (c : List ℕ) (id : ℕ) → named_id ps (steps.Delete c) ≡ Some id → IsLeastSuch is_active ps c id }
+    ensures weakened { (ps : List Step) (c : List ℕ) (id : ℕ) → named_id ps (steps.Weaken c) ≡ Some id → IsLeastSuch is_active ps c id }
+    ensures restored { (ps : List Step) (c : List ℕ) (id : ℕ) → named_id ps (steps.Restore c) ≡ Some id → IsLeastSuch is_weakened ps c id }
+    ensures changed { (ps : List Step) (p : Step) (id : ℕ) → named_id ps p ≡ Some id → LeavesOthers ps p id }
+    ensures kept_active { (m : Clauses) (next : ℕ) (ps : List Step) (c : List ℕ) (id : ℕ) (ls : List ℕ) → HoldsSets m next ps
+        → IsLeast m true c id ls → named_id ps (steps.Delete c) ≡ Some id }
+    ensures kept_weakened { (m : Clauses) (next : ℕ) (ps : List Step) (c : List ℕ) (id : ℕ) (ls : List ℕ) → HoldsSets m next ps
+        → IsLeast m false c id ls → named_id ps (steps.Restore c) ≡ Some id }
+    ensures active_count { (m : Clauses) (next : ℕ) (ps : List Step) → HoldsSets m next ps → (c : List ℕ)
+        → active_copies ps c ≡ how_many is_active c (given_by ps) }
+    ensures weakened_count { (m : Clauses) (next : ℕ) (ps : List Step) → HoldsSets m next ps → (c : List ℕ)
+        → weakened_copies ps c ≡ how_many is_weakened c (given_by ps) }
 {}
 
 /// A copy of a clause is kept exactly where the steps leave one, and the clauses that are kept as active close where the

@@ -9,15 +9,15 @@ use Rattle.pair_matcher.proofs.checking.take_step.Goals as goal
 pub returns-in-Ok-Some-clause-told : goal.returns-in-Ok-Some-clause-told
 returns-in-Ok-Some-clause-told g c = λ a b tb h. both_map a _ b tb _ _ h
     (λ x tx y ty k. c.refused.ensures ∙ ap (λ n. Refused Proof n c.in-Ok-Some.rule) c.line.ensures.line
-    ∙ own_broken g.P.ProofSide.form (g.P.ProofSide.stands c.args.c.now.side) c.args.c.now.queries x y c.args.c.now.asked c.args.c.now.told tx ty c.args.step c.in-Ok-Some.rule k (λ ps s. sym c.in-Ok-Some.field-0-is ∙ c.in-Ok-Some.ensures.rule ps s))
+    ∙ own_broken g.P.ProofSide.form (g.P.ProofSide.stands c.args.c.now.side) c.args.c.now.at.queries x y c.args.c.now.at.interaction c.args.c.now.at.proof tx ty c.args.step c.in-Ok-Some.rule k (λ ps s. sym c.in-Ok-Some.field-0-is ∙ c.in-Ok-Some.ensures.rule ps s))
 
 pub returns-in-Ok-clause-told : goal.returns-in-Ok-clause-told
 returns-in-Ok-clause-told g c = λ a b tb h. c.in-Ok.ensures.told a b tb (both_map a _ b tb _ _ h
-    (λ x tx y ty k. subst (λ o. AtEvent g.P.ProofSide.form (g.P.ProofSide.stands c.take_step.new.self) c.args.c.now.queries c.args.c.now.asked c.args.c.now.told o x tx y ty) (sym c.into_event.ensures ∙ c.in-Some.is)
-    (own_kept g.P.ProofSide.form (g.P.ProofSide.stands c.args.c.now.side) c.args.c.now.queries x y (g.P.ProofSide.stands c.take_step.new.self) c.args.c.now.asked c.args.c.now.told tx ty c.args.step k (λ ps s. sym c.in-Ok-None.field-0-is ∙ c.in-Ok-None.ensures.rule ps s) (rw c.in-Ok-None.field-0-is at c.in-Ok-None.ensures.stands))))
+    (λ x tx y ty k. subst (λ o. AtEvent g.P.ProofSide.form (g.P.ProofSide.stands c.take_step.new.self) c.args.c.now.at o x tx y ty) (sym c.into_event.ensures ∙ c.in-Some.is)
+    (own_kept g.P.ProofSide.form (g.P.ProofSide.stands c.args.c.now.side) c.args.c.now.at.queries x y (g.P.ProofSide.stands c.take_step.new.self) c.args.c.now.at.interaction c.args.c.now.at.proof tx ty c.args.step k (λ ps s. sym c.in-Ok-None.field-0-is ∙ c.in-Ok-None.ensures.rule ps s) (rw c.in-Ok-None.field-0-is at c.in-Ok-None.ensures.stands))))
 
 pub returns-in-None-clause-told : goal.returns-in-None-clause-told
 returns-in-None-clause-told g c = λ a b tb h. both_map a _ b tb _ _ h
-    (λ x tx y ty k. no_event g.P.ProofSide.form (g.P.ProofSide.stands c.take_step.new.self) c.args.c.now.queries x y c.args.c.now.asked c.args.c.now.told tx ty
-    (subst (λ o. AtEvent g.P.ProofSide.form (g.P.ProofSide.stands c.take_step.new.self) c.args.c.now.queries c.args.c.now.asked c.args.c.now.told o x tx y ty) (sym c.into_event.ensures ∙ c.in-None.is)
-    (own_kept g.P.ProofSide.form (g.P.ProofSide.stands c.args.c.now.side) c.args.c.now.queries x y (g.P.ProofSide.stands c.take_step.new.self) c.args.c.now.asked c.args.c.now.told tx ty c.args.step k (λ ps s. sym c.in-Ok-None.field-0-is ∙ c.in-Ok-None.ensures.rule ps s) (rw c.in-Ok-None.field-0-is at c.in-Ok-None.ensures.stands))))
+    (λ x tx y ty k. no_event g.P.ProofSide.form (g.P.ProofSide.stands c.take_step.new.self) c.args.c.now.at.queries x y c.args.c.now.at.interaction c.args.c.now.at.proof tx ty
+    (subst (λ o. AtEvent g.P.ProofSide.form (g.P.ProofSide.stands c.take_step.new.self) c.args.c.now.at o x tx y ty) (sym c.into_event.ensures ∙ c.in-None.is)
+    (own_kept g.P.ProofSide.form (g.P.ProofSide.stands c.args.c.now.side) c.args.c.now.at.queries x y (g.P.ProofSide.stands c.take_step.new.self) c.args.c.now.at.interaction c.args.c.now.at.proof tx ty c.args.step k (λ ps s. sym c.in-Ok-None.field-0-is ∙ c.in-Ok-None.ensures.rule ps s) (rw c.in-Ok-None.field-0-is at c.in-Ok-None.ensures.stands))))

@@ -7,13 +7,13 @@ use Rattle.pair_matcher.proofs.checking.turn.Goals as goal
 
 pub returns-in-Ok-clause-told : goal.returns-in-Ok-clause-told
 returns-in-Ok-clause-told g c = λ a b h. c.in-Ok.ensures.told a b _ (rw c.take_step.ensures.place (second_moves a _ b _ _ _ _ _ h (rw c.in-Ok-Some.field-0-is at c.in-Ok-Some.ensures.told)
-    (λ x tx y ty uy k m. step_read g.P.ProofSide.form (g.P.ProofSide.stands c.args.c.now.side) c.args.c.now.queries x y c.args.c.now.asked c.args.c.now.told c.read_step.new.window tx ty uy c.in-Ok-Some.step k m)))
+    (λ x tx y ty uy k m. step_read g.P.ProofSide.form (g.P.ProofSide.stands c.args.c.now.side) c.args.c.now.at.queries x y c.args.c.now.at.interaction c.args.c.now.at.proof c.read_step.new.window tx ty uy c.in-Ok-Some.step k m)))
 
 pub returns-in-Ok-take_end-clause-told : goal.returns-in-Ok-take_end-clause-told
 returns-in-Ok-take_end-clause-told g c = λ a b h. rw c.take_end.ensures.place (c.in-Ok-take_end.ensures.told a b _ (second_moves a _ b _ _ _ _ _ h (rw c.in-Ok-None.field-0-is at c.in-Ok-None.ensures.told)
-    (λ x tx y ty uy k m. proof_ended g.P.ProofSide.form (g.P.ProofSide.stands c.args.c.now.side) c.args.c.now.queries x y c.args.c.now.asked c.args.c.now.told c.read_step.new.window tx ty uy k m)))
+    (λ x tx y ty uy k m. proof_ended g.P.ProofSide.form (g.P.ProofSide.stands c.args.c.now.side) c.args.c.now.at.queries x y c.args.c.now.at.interaction c.args.c.now.at.proof c.read_step.new.window tx ty uy k m)))
 
 pub returns-in-Err-Syntax-clause-told : goal.returns-in-Err-Syntax-clause-told
 returns-in-Err-Syntax-clause-told g c = λ a b h. second_moves a _ b _ _ _ _ _ h (rw c.in-Err-Syntax.field-0-is at c.in-Err-Syntax.ensures.told)
     (λ x tx y ty uy k m. c.refused.ensures ∙ ap (λ n. Refused Proof n c.in-Err-Syntax.rule) c.line.ensures.line
-    ∙ line_broken g.P.ProofSide.form (g.P.ProofSide.stands c.args.c.now.side) c.args.c.now.queries x y c.args.c.now.asked c.args.c.now.told c.read_step.new.window tx ty c.in-Err-Syntax.rule k m)
+    ∙ line_broken g.P.ProofSide.form (g.P.ProofSide.stands c.args.c.now.side) c.args.c.now.at.queries x y c.args.c.now.at.interaction c.args.c.now.at.proof c.read_step.new.window tx ty c.in-Err-Syntax.rule k m)

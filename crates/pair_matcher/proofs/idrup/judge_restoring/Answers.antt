@@ -7,4 +7,4 @@ returns-in_default-clause-judged c = restoring_none c.store.result.now c.args.p.
 
 pub returns-in-Ok-clause-judged : goal.returns-in-Ok-clause-judged
 returns-in-Ok-clause-judged c = restoring_done c.store.result.now c.args.p.now.engine c.restore.new.self c.store.ensures _ _ _ c.in_ok-set.set c.in_ok-set.ensures.set
-    c.in-Some.id c.in-Some.ensures.found c.in-Ok.ensures.ok
+    c.in-Some.id c.in-Some.ensures.found c.in-Some.ensures.least c.in-Ok.ensures.ok

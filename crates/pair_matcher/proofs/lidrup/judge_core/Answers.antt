@@ -1,6 +1,6 @@
 use Rattle.std.proofs.Common.{ap, ◌∙◌, sym, subst}
 use Rattle.session_events.specs.State.{StandsFor}
-use Rattle.pair_matcher.specs.Inside.{IsInside}
+use Rattle.pair_matcher.specs.Inside.{HasHintRoom}
 use Rattle.pair_matcher.proofs.Judging.{core_order, core_hint, core_stranger, core_done}
 use Rattle.pair_matcher.proofs.Insides.{inside-events, store_within}
 use Rattle.pair_matcher.proofs.lidrup.judge_core.Goals as goal
@@ -25,5 +25,5 @@ returns-clause-judged c = core_done c.args.p.now.store _ _ c.order_rule.result _
     (λ es h. c.take_core.ensures.stands es c.args.u.now (subst (λ z. StandsFor z es) (sym c.core_rule.ensures.unchanged) h))
 
 pub returns-clause-inside : goal.returns-clause-inside
-returns-clause-inside c = subst (λ z. IsInside c.args.p.now.store c.take_core.new.self z) (sym c.run.ensures.reserved) (inside-events _ _ _ c.requires.inside _
+returns-clause-inside c = subst (λ z. HasHintRoom c.args.p.now.store c.take_core.new.self z) (sym c.run.ensures.reserved) (inside-events _ _ _ c.requires.inside _
     (ap (λ z. z.reserved) (c.take_core.ensures.state c.args.u.now) ∙ ap (λ z. z.reserved) c.core_rule.ensures.unchanged))

@@ -1,7 +1,7 @@
 use Rattle.std.proofs.Common.{ap, ◌∙◌, refl, sym, subst}
 use Rattle.session_rules.specs.Logic.{hints_fail}
 use Rattle.hint_check.specs.Hints.{active_at, end_of}
-use Rattle.pair_matcher.specs.Inside.{IsInside}
+use Rattle.pair_matcher.specs.Inside.{HasHintRoom}
 use Rattle.pair_matcher.proofs.Judging.{lemma_taken, lemma_hint, lemma_done, taken_by_fault}
 use Rattle.pair_matcher.proofs.Insides.{inside-added, negations_within, store_within}
 use Rattle.pair_matcher.proofs.lidrup.judge_lemma.Goals as goal
@@ -22,7 +22,7 @@ returns-in-Closed-clause-judged c = lemma_done _ _ _ _ _ _ _ c.in-Ok.ensures.fre
     c.in-Closed.is c.in-Ok.field-0 c.in-Ok.ensures.ok refl
 
 pub returns-in-Closed-clause-inside : goal.returns-in-Closed-clause-inside
-returns-in-Closed-clause-inside c = subst (λ z. IsInside c.add.new.self c.args.p.now.events z) (sym c.run-end.ensures.reserved) (inside-added _ _ _ c.requires.inside _ _ _ c.in-Ok.field-0 _ c.requires.reserved c.in-Ok.ensures.ok refl)
+returns-in-Closed-clause-inside c = subst (λ z. HasHintRoom c.add.new.self c.args.p.now.events z) (sym c.run-end.ensures.reserved) (inside-added _ _ _ c.requires.inside _ _ _ c.in-Ok.field-0 _ c.requires.reserved c.in-Ok.ensures.ok refl)
 
 pub returns-in-Fails-clause-judged : goal.returns-in-Fails-clause-judged
 returns-in-Fails-clause-judged c = lemma_hint _ _ _ _ _ _ _ c.in-Ok.ensures.free c.run-end.result
@@ -30,4 +30,4 @@ returns-in-Fails-clause-judged c = lemma_hint _ _ _ _ _ _ _ c.in-Ok.ensures.free
     c.in-Fails.position c.in-Fails.is
 
 pub returns-in-Fails-clause-inside : goal.returns-in-Fails-clause-inside
-returns-in-Fails-clause-inside c = subst (λ z. IsInside c.add.new.self c.args.p.now.events z) (sym c.run-end.ensures.reserved) (inside-added _ _ _ c.requires.inside _ _ _ c.in-Ok.field-0 _ c.requires.reserved c.in-Ok.ensures.ok refl)
+returns-in-Fails-clause-inside c = subst (λ z. HasHintRoom c.add.new.self c.args.p.now.events z) (sym c.run-end.ensures.reserved) (inside-added _ _ _ c.requires.inside _ _ _ c.in-Ok.field-0 _ c.requires.reserved c.in-Ok.ensures.ok refl)

@@ -1,7 +1,7 @@
 use Rattle.session_rules.specs.declared.LStep.TheVariants as lsteps
 use Rattle.session_rules.specs.declared.Standing.TheVariants.{Absent}
 use Rattle.session_rules.specs.Own.{is_active}
-use Rattle.side_laws.specs.Kept.{clauses_of_store}
+use Rattle.side_laws.specs.ClauseStates.{clauses_of_store}
 use Rattle.side_laws.proofs.Turns.{Went}
 use Rattle.pair_matcher.proofs.turns.delete_each.Given as goal
 

@@ -1,5 +1,5 @@
 use Rattle.side_laws.proofs.Held.{holds_no_sets, sets_given, sets_silent, sets_deleted, sets_weakened, sets_restored}
-use Rattle.side_laws.proofs.copies_are_kept.Goals as goal
+use Rattle.side_laws.proofs.least_ids_change.Goals as goal
 
 pub returns-clause-nothing : goal.returns-clause-nothing
 returns-clause-nothing c = holds_no_sets

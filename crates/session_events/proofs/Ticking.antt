@@ -1,4 +1,4 @@
--- Marks in a table, one literal after another, and the first clash among them.
+-- Ticks in a table, one literal after another, and the first clash among them.
 use Rattle.std.proofs.Common.{◌≡◌, ℕ, ◌+◌, ◌<◌, Bool, true, false, not, ◌&&◌, ◌||◌, cond, nat_eq, List, [], ◌∷◌, ◌++◌, length, get_or, set, take, drop, Option, Some, None, refl, sym, ◌∙◌, ap, inl, inr, arith, eq-eqb}
 use Rattle.std.specs.Option.{is_some}
 use Rattle.std.proofs.lemmas.Bool.{cases_eq, ne_eqb}
@@ -7,7 +7,7 @@ use Rattle.std.proofs.lemmas.List.Folds.{list_any-append}
 use Rattle.lits.specs.Literal.{neg}
 use Rattle.session_rules.specs.Logic.{has}
 use Rattle.session_rules.specs.History.{first_clash}
-use Rattle.session_events.specs.Marks.{is_marked, HasPlace}
+use Rattle.session_events.specs.Ticks.{is_ticked, HasPlace}
 
 -- ---- Members
 
@@ -41,22 +41,22 @@ abbrev pub or_later : Option ℕ → Option ℕ → Option ℕ
 or_later None later = later
 or_later (Some l) later = Some l
 
--- the loop that marks literals: the table marks those so far, and the first clash is found or still to come
-pub record IsMarking (marks : List Bool) (lits : List ℕ) (clash : Option ℕ) (i : ℕ) : Type 0 where
-  pub marked : (k : ℕ) → is_marked marks k ≡ has (take i lits) k
+-- the loop that ticks literals: the table ticks those so far, and the first clash is found or still to come
+pub record IsTicking (ticks : List Bool) (lits : List ℕ) (clash : Option ℕ) (i : ℕ) : Type 0 where
+  pub ticked : (k : ℕ) → is_ticked ticks k ≡ has (take i lits) k
   pub found : first_clash [] lits ≡ or_later clash (first_clash (take i lits) (drop i lits))
 
--- a mark more
-pub marked-set : (marks : List Bool) (l k : ℕ) → l < length marks → is_marked (set marks l true) k ≡ (is_marked marks k || nat_eq k l)
-marked-set marks l k lt = elim (cases_eq k l) [
-  | inl e ↦ ap (λ z. is_marked (set marks l true) z) e ∙ get_or-set_same marks l true false lt
-      ∙ sym (ap (λ z. is_marked marks k || z) (eq-eqb k l e) ∙ or_swap (is_marked marks k) true)
-  | inr n ↦ get_or-set_other marks l k true false n ∙ sym (ap (λ z. is_marked marks k || z) (ne_eqb k l n) ∙ or_false (is_marked marks k))
+-- a tick more
+pub ticked-set : (ticks : List Bool) (l k : ℕ) → l < length ticks → is_ticked (set ticks l true) k ≡ (is_ticked ticks k || nat_eq k l)
+ticked-set ticks l k lt = elim (cases_eq k l) [
+  | inl e ↦ ap (λ z. is_ticked (set ticks l true) z) e ∙ get_or-set_same ticks l true false lt
+      ∙ sym (ap (λ z. is_ticked ticks k || z) (eq-eqb k l e) ∙ or_swap (is_ticked ticks k) true)
+  | inr n ↦ get_or-set_other ticks l k true false n ∙ sym (ap (λ z. is_ticked ticks k || z) (ne_eqb k l n) ∙ or_false (is_ticked ticks k))
 ]
 
-marked-more : (marks : List Bool) (lits : List ℕ) (i l : ℕ) → i < length lits → l ≡ get_or lits i 0 → l < length marks
-    → ((k : ℕ) → is_marked marks k ≡ has (take i lits) k) → (k : ℕ) → is_marked (set marks l true) k ≡ has (take (i + 1) lits) k
-marked-more marks lits i l lt is in_table h k = marked-set marks l k in_table ∙ ap (λ z. z || nat_eq k l) (h k)
+ticked-more : (ticks : List Bool) (lits : List ℕ) (i l : ℕ) → i < length lits → l ≡ get_or lits i 0 → l < length ticks
+    → ((k : ℕ) → is_ticked ticks k ≡ has (take i lits) k) → (k : ℕ) → is_ticked (set ticks l true) k ≡ has (take (i + 1) lits) k
+ticked-more ticks lits i l lt is in_table h k = ticked-set ticks l k in_table ∙ ap (λ z. z || nat_eq k l) (h k)
     ∙ ap (λ z. has (take i lits) k || nat_eq k z) is ∙ sym (has-more lits i k lt)
 
 -- what is to come, one literal on
@@ -68,33 +68,33 @@ clash-more lits i lt =
     at_drop_more (first_clash (take i lits)) lits i 0 lt ∙ ap (λ z. cond (has (take i lits) (neg x)) (Some x) z) same
 
 -- a literal without a new clash
-pub marking-more : (marks : List Bool) (lits : List ℕ) (clash : Option ℕ) (i l : ℕ) → i < length lits → l ≡ get_or lits i 0 → l < length marks
-    → IsMarking marks lits clash i → (is_some clash ≡ false → is_marked marks (neg l) ≡ false) → IsMarking (set marks l true) lits clash (i + 1)
-marking-more marks lits (Some x) i l lt is in_table h free = record { marked = marked-more marks lits i l lt is in_table h.marked; found = h.found }
-marking-more marks lits None i l lt is in_table h free =
-    let unseen : has (take i lits) (neg (get_or lits i 0)) ≡ false = ap (λ z. has (take i lits) (neg z)) (sym is) ∙ sym (h.marked (neg l)) ∙ free refl in
+pub ticking-more : (ticks : List Bool) (lits : List ℕ) (clash : Option ℕ) (i l : ℕ) → i < length lits → l ≡ get_or lits i 0 → l < length ticks
+    → IsTicking ticks lits clash i → (is_some clash ≡ false → is_ticked ticks (neg l) ≡ false) → IsTicking (set ticks l true) lits clash (i + 1)
+ticking-more ticks lits (Some x) i l lt is in_table h free = record { ticked = ticked-more ticks lits i l lt is in_table h.ticked; found = h.found }
+ticking-more ticks lits None i l lt is in_table h free =
+    let unseen : has (take i lits) (neg (get_or lits i 0)) ≡ false = ap (λ z. has (take i lits) (neg z)) (sym is) ∙ sym (h.ticked (neg l)) ∙ free refl in
     record {
-      marked = marked-more marks lits i l lt is in_table h.marked;
+      ticked = ticked-more ticks lits i l lt is in_table h.ticked;
       found = h.found ∙ clash-more lits i lt ∙ ap (λ z. cond z (Some (get_or lits i 0)) (first_clash (take (i + 1) lits) (drop (i + 1) lits))) unseen;
     }
 
 -- the literal that clashes first
-pub marking-clash : (marks : List Bool) (lits : List ℕ) (clash : Option ℕ) (i l : ℕ) → i < length lits → l ≡ get_or lits i 0 → l < length marks
-    → IsMarking marks lits clash i → is_some clash ≡ false → is_marked marks (neg l) ≡ true → IsMarking (set marks l true) lits (Some l) (i + 1)
-marking-clash marks lits (Some x) i l lt is in_table h none seen = absurd (cc)
-marking-clash marks lits None i l lt is in_table h none seen =
-    let seen2 : has (take i lits) (neg (get_or lits i 0)) ≡ true = ap (λ z. has (take i lits) (neg z)) (sym is) ∙ sym (h.marked (neg l)) ∙ seen in
+pub ticking-clash : (ticks : List Bool) (lits : List ℕ) (clash : Option ℕ) (i l : ℕ) → i < length lits → l ≡ get_or lits i 0 → l < length ticks
+    → IsTicking ticks lits clash i → is_some clash ≡ false → is_ticked ticks (neg l) ≡ true → IsTicking (set ticks l true) lits (Some l) (i + 1)
+ticking-clash ticks lits (Some x) i l lt is in_table h none seen = absurd (cc)
+ticking-clash ticks lits None i l lt is in_table h none seen =
+    let seen2 : has (take i lits) (neg (get_or lits i 0)) ≡ true = ap (λ z. has (take i lits) (neg z)) (sym is) ∙ sym (h.ticked (neg l)) ∙ seen in
     record {
-      marked = marked-more marks lits i l lt is in_table h.marked;
+      ticked = ticked-more ticks lits i l lt is in_table h.ticked;
       found = h.found ∙ clash-more lits i lt
           ∙ ap (λ z. cond z (Some (get_or lits i 0)) (first_clash (take (i + 1) lits) (drop (i + 1) lits))) seen2 ∙ ap Some (sym is);
     }
 
--- ---- The loop that takes marks away
+-- ---- The loop that takes ticks away
 
 -- those so far are gone, and the others stand
-pub record IsUnmarking (old new : List Bool) (lits : List ℕ) (i : ℕ) : Type 0 where
-  pub left : (k : ℕ) → is_marked new k ≡ (is_marked old k && not (has (take i lits) k))
+pub record IsUnticking (old new : List Bool) (lits : List ℕ) (i : ℕ) : Type 0 where
+  pub left : (k : ℕ) → is_ticked new k ≡ (is_ticked old k && not (has (take i lits) k))
 
 -- ---- Places in the table
 
