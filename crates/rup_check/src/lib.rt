@@ -12,6 +12,7 @@ ghost use Rattle.rup_check.specs.Assuming.{Assumes, EndsAt};
 use clause_store::Slot;
 use lits::Lit;
 use propagation::Engine;
+use session_rules::Ids;
 use std::alloc::{AllocError, Global};
 
 /// Whether there is a closing sequence of the active clauses from these literals.
@@ -49,10 +50,10 @@ fn assume_each(engine: &mut Engine, start: &[Lit]) -> bool
 }
 
 /// The ids of the reasons along the trail.
-fn reasons(alloc: Global, engine: &Engine) -> Result<Vec<u64>, AllocError>
-    ensures { IfOk result (λ v. ReasonsAre engine.now.clauses engine.now.trail v.items) }
+fn reasons(alloc: Global, engine: &Engine) -> Result<Ids, AllocError>
+    ensures { IfOk result (λ ids. ReasonsAre engine.now.clauses engine.now.trail ids) }
 {
-    let mut ids = Vec::new(alloc);
+    let mut ids = Ids::new(alloc);
     for l in engine.trail() {
         if let Some(slot) = engine.reason(*l) {
             ids.push(engine.store().id_of(slot))?;
@@ -62,32 +63,35 @@ fn reasons(alloc: Global, engine: &Engine) -> Result<Vec<u64>, AllocError>
 }
 
 /// These, and the id of a false clause.
-fn conflict(alloc: Global, engine: &Engine, slot: Slot) -> Result<Vec<u64>, AllocError>
+fn conflict(alloc: Global, engine: &Engine, slot: Slot) -> Result<Ids, AllocError>
     requires { IsFalseAt engine.now slot }
-    ensures { IfOk result (λ v. EndsAt engine.now slot v.items) }
+    ensures { IfOk result (λ ids. EndsAt engine.now slot ids) }
 {
     let mut ids = reasons(alloc, engine)?;
     ids.push(engine.store().id_of(slot))?;
     Ok(ids)
 }
 
-/// As `closes`, with hints that close.
+/// As `closes`; where there is a closing sequence the hints become ids of active clauses that close, none of them twice.
+/// Else, and where memory is wanting, they stay.
 pub fn closes_with(
+    alloc: Global,
     engine: &mut Engine,
     start: &[Lit],
-    hints: &mut Vec<u64>,
+    hints: &mut Ids,
 ) -> Result<bool, AllocError>
     requires level { level_after engine.old.trail ≡ 0 }
     requires reserved { (l : ℕ) → Contains start.now l → var l ≤ engine.old.vars }
-    ensures closed { IfOk result (λ b. IsTrue b → logic.hints_fail (active_at engine.old.clauses) start.now hints.new.items ≡ None) }
-    ensures once { IfOk result (λ b. IsTrue b → IsOnce hints.new.items) }
-    ensures active { IfOk result (λ b. IsTrue b → (id : ℕ) → IsTrue (logic.has hints.new.items id) → IsTrue (is_some (slot_of engine.old.clauses id))) }
+    ensures closed { IfOk result (λ b. IsTrue b
+        → logic.hints_fail (active_at engine.old.clauses) start.now hints.new ≡ None) }
+    ensures once { IfOk result (λ b. IsTrue b → IsOnce hints.new) }
+    ensures active { IfOk result (λ b. IsTrue b
+        → (id : ℕ) → IsTrue (logic.has hints.new id) → IsTrue (is_some (slot_of engine.old.clauses id))) }
     ensures complete { IfOk result (λ b. b ≡ false → logic.Closes (active engine.old.clauses) start.now → ⊥) }
-    ensures kept { IfOk result (λ b. b ≡ false → hints.new.items ≡ hints.old.items) }
-    ensures err { OnErr result (hints.new.items ≡ hints.old.items) }
+    ensures kept { IfOk result (λ b. b ≡ false → hints.new ≡ hints.old) }
+    ensures err { OnErr result (hints.new ≡ hints.old) }
     ensures frame { Grows engine.old engine.new }
 {
-    let alloc = *hints.allocator();
     if let Some(slot) = engine.propagate() {
         let found = conflict(alloc, engine, slot)?;
         *hints = found;

@@ -6,6 +6,7 @@ ghost use Rattle.lits.specs.Literal.{var};
 use crate::{closes, closes_with};
 use lits::Lit;
 use propagation::Engine;
+use session_rules::Ids;
 use std::alloc::{AllocError, Global};
 use std::test::Fail;
 
@@ -55,12 +56,12 @@ fn close(engine: &mut Engine, a: i64, b: i64) -> bool
 }
 
 // Whether a literal closes, with hints. The trail is emptied before.
-fn close_with(engine: &mut Engine, n: i64, hints: &mut Vec<u64>) -> Result<bool, AllocError>
+fn close_with(alloc: Global, engine: &mut Engine, n: i64, hints: &mut Ids) -> Result<bool, AllocError>
     requires { engine.old.vars ≡ 9 }
     ensures { engine.new.vars ≡ 9 }
 {
     engine.clear();
-    closes_with(engine, &[lit(n)], hints)
+    closes_with(alloc, engine, &[lit(n)], hints)
 }
 
 // Clause 1 is `1 2`, and clause 2 is `-1 2`.
@@ -124,23 +125,23 @@ fn contradicting_units_and_the_empty_clause_close(rt: HostRuntime) -> Result<(),
 fn hints_are_the_clauses_that_close(rt: HostRuntime) -> Result<(), Fail> {
     let mut engine = two_clauses(rt.alloc())?;
     assert!(rt; add(&mut engine, 3, 5, 6));
-    let mut hints = Vec::new(rt.alloc());
+    let mut hints = Ids::new(rt.alloc());
     hints.push(7)?;
-    assert!(rt; !close_with(&mut engine, 2, &mut hints)?);
+    assert!(rt; !close_with(rt.alloc(), &mut engine, 2, &mut hints)?);
     assert_eq!(rt; hints.as_slice(), [7].as_slice());
-    assert!(rt; close_with(&mut engine, -2, &mut hints)?);
+    assert!(rt; close_with(rt.alloc(), &mut engine, -2, &mut hints)?);
     assert_eq!(rt; hints.len(), 2);
-    assert!(rt; hints.contains(&1));
-    assert!(rt; hints.contains(&2));
+    assert!(rt; hints.as_slice().contains(&1));
+    assert!(rt; hints.as_slice().contains(&2));
     Ok(())
 }
 
 #[test]
 fn opposite_literals_need_no_hint(rt: HostRuntime) -> Result<(), Fail> {
     let mut engine = nine(rt.alloc())?;
-    let mut hints = Vec::new(rt.alloc());
+    let mut hints = Ids::new(rt.alloc());
     hints.push(7)?;
-    assert!(rt; closes_with(&mut engine, &[lit(3), lit(-3)], &mut hints)?);
+    assert!(rt; closes_with(rt.alloc(), &mut engine, &[lit(3), lit(-3)], &mut hints)?);
     assert_eq!(rt; hints.len(), 0);
     Ok(())
 }
