@@ -107,7 +107,7 @@ level-kept n (x ∷ ss) rest l h = elim (cases_Bool (nat_eq (var x.lit) (var l))
       | inr n ↦ n
     ]
 
-reason-kept : (ss rest : List Step) (l : ℕ) → has (literals ss) l ≡ true → reason_in (ss ++ rest) l ≡ reason_in ss l
+pub reason-kept : (ss rest : List Step) (l : ℕ) → has (literals ss) l ≡ true → reason_in (ss ++ rest) l ≡ reason_in ss l
 reason-kept [] rest l h = cc h
 reason-kept (x ∷ ss) rest l h = elim (cases_Bool (nat_eq x.lit l)) [
   | inl y ↦ rw y refl
@@ -124,7 +124,7 @@ reason-kept (x ∷ ss) rest l h = elim (cases_Bool (nat_eq x.lit l)) [
 var-apart : (l m : ℕ) → l ≢ m → neg l ≢ m → nat_eq (var m) (var l) ≡ false
 var-apart l m n o = ne_eqb (var m) (var l) (λ e. omega (arith, n, o, e))
 
-free-rest : (x : Step) (ss : List Step) (l : ℕ) → IsFree (literals (x ∷ ss)) l → (nat_eq (var x.lit) (var l) ≡ false) × IsFree (literals ss) l
+pub free-rest : (x : Step) (ss : List Step) (l : ℕ) → IsFree (literals (x ∷ ss)) l → (nat_eq (var x.lit) (var l) ≡ false) × IsFree (literals ss) l
 free-rest x ss l free = elim (cases_Bool (nat_eq l x.lit)) [
   | inl y ↦ absurd (both_ways _ free.0 (or_left (nat_eq l x.lit) (has (literals ss) l) y))
   | inr n ↦ elim (cases_Bool (nat_eq (neg l) x.lit)) [
@@ -144,13 +144,13 @@ level-free n (x ∷ ss) l free = let r = free-rest x ss l free in rw r.0 (level-
 raised-on : (n : ℕ) (x : Step) (ss : List Step) → raised n x.reason + level_after ss ≡ n + level_after (x ∷ ss)
 raised-on n x ss = elim (cases_Bool (is_none x.reason)) [ inl y ↦ rw y (omega arith) | inr o ↦ rw o refl ]
 
-level-new : (n : ℕ) (ss : List Step) (s : Step) → IsFree (literals ss) s.lit → level_behind n (ss ++ s ∷ []) s.lit ≡ Some (raised (n + level_after ss) s.reason)
+pub level-new : (n : ℕ) (ss : List Step) (s : Step) → IsFree (literals ss) s.lit → level_behind n (ss ++ s ∷ []) s.lit ≡ Some (raised (n + level_after ss) s.reason)
 unfolding level_behind
 level-new n [] s free = let same : nat_eq (var s.lit) (var s.lit) ≡ true = eq-eqb _ _ refl in rw same (ap (λ k. Some (raised k s.reason)) (omega arith))
 level-new n (x ∷ ss) s free = let r = free-rest x ss s.lit free in
     rw r.0 (level-new (raised n x.reason) ss s r.1 ∙ ap (λ k. Some (raised k s.reason)) (raised-on n x ss))
 
-reason-new : (ss : List Step) (s : Step) → has (literals ss) s.lit ≡ false → reason_in (ss ++ s ∷ []) s.lit ≡ s.reason
+pub reason-new : (ss : List Step) (s : Step) → has (literals ss) s.lit ≡ false → reason_in (ss ++ s ∷ []) s.lit ≡ s.reason
 reason-new [] s free = let same : nat_eq s.lit s.lit ≡ true = eq-eqb _ _ refl in rw same refl
 reason-new (x ∷ ss) s free = elim (cases_Bool (nat_eq s.lit x.lit)) [
   | inl y ↦ absurd (both_ways _ free (or_left (nat_eq s.lit x.lit) (has (literals ss) s.lit) y))

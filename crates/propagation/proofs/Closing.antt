@@ -33,7 +33,7 @@ unit-within trues all c l w h = let r = and_parts _ _ h in
 -- ---- Nothing follows: no closing sequence
 
 -- of a quiet clause, the literal of a unit is true
-quiet_unit : (all c : List ℕ) (l : ℕ) → IsQuiet all c → is_unit all c l ≡ true → has all l ≡ true
+pub quiet_unit : (all c : List ℕ) (l : ℕ) → IsQuiet all c → is_unit all c l ≡ true → has all l ≡ true
 quiet_unit all c l q u = elim (cases_Bool (has all l)) [
   | inl y ↦ y
   | inr n ↦ elim (cases_Bool (has all (neg l))) [

@@ -19,7 +19,7 @@ use Rattle.propagation.proofs.Closing.{Within, unit-within, falsified-within, ha
 
 -- ---- What is left of a clause
 
-left_falsified_of : (ls : List ℕ) → ((x : ℕ) → Contains ls x → ⊥) → left_of ls ≡ Falsified
+pub left_falsified_of : (ls : List ℕ) → ((x : ℕ) → Contains ls x → ⊥) → left_of ls ≡ Falsified
 left_falsified_of [] h = refl
 left_falsified_of (x ∷ ls) h = absurd (h x (here x ls))
 
@@ -27,14 +27,14 @@ pub left_falsified : (trues c : List ℕ) → is_falsified trues c ≡ true → 
 left_falsified trues c h = left_falsified_of _ (λ x n. let r = filter_at (λ m. not (has trues (neg m))) c x n in
     both_ways _ (not-true _ r.1) (all_at (λ m. has trues (neg m)) c x h r.0))
 
-not_open : (ls : List ℕ) (l : ℕ) → ((m : ℕ) → Contains ls m → l ≡ m) → left_of ls ≡ Open → ⊥
+pub not_open : (ls : List ℕ) (l : ℕ) → ((m : ℕ) → Contains ls m → l ≡ m) → left_of ls ≡ Open → ⊥
 not_open [] l h e = cc
 not_open (x ∷ xs) l h e =
     let q : list_all (nat_eq x) xs ≡ true = all_from (nat_eq x) xs (λ m n. eq-eqb x m (sym (h x (here x xs)) ∙ h m (there x m xs n))) in
     let f : UnitLiteral x ≡ Open = rw q at e in cc f
 
 -- of a clause with this unit, what isn't false is the unit
-only : (trues c : List ℕ) (l : ℕ) → is_unit trues c l ≡ true → (m : ℕ) → Contains (filter (λ x. not (has trues (neg x))) c) m → l ≡ m
+pub only : (trues c : List ℕ) (l : ℕ) → is_unit trues c l ≡ true → (m : ℕ) → Contains (filter (λ x. not (has trues (neg x))) c) m → l ≡ m
 only trues c l u m n = let r = filter_at (λ x. not (has trues (neg x))) c m n in
     elim (or_cases _ _ (all_at (λ x. nat_eq l x || has trues (neg x)) c m (and_parts _ _ u).1 r.0)) [
       | inl y ↦ eqb-true l m y
@@ -46,7 +46,7 @@ only trues c l u m n = let r = filter_at (λ x. not (has trues (neg x))) c m n i
 abbrev pub Consistent : List ℕ → Type 0
 Consistent trues = (q : ℕ) → has trues q ≡ true → has trues (neg q) ≡ true → ⊥
 
-consistent-cons : (trues : List ℕ) (l : ℕ) → Consistent trues → has trues (neg l) ≡ false → Consistent (l ∷ trues)
+pub consistent-cons : (trues : List ℕ) (l : ℕ) → Consistent trues → has trues (neg l) ≡ false → Consistent (l ∷ trues)
 consistent-cons trues l k f q a b = elim (or_cases (nat_eq q l) (has trues q) a) [
   | inl y ↦ elim (or_cases (nat_eq (neg q) l) (has trues (neg q)) b) [
     | inl z ↦ neg-ne q (eqb-true q l y ∙ sym (eqb-true (neg q) l z))
@@ -59,7 +59,7 @@ consistent-cons trues l k f q a b = elim (or_cases (nat_eq q l) (has trues q) a)
 ]
 
 -- at a hint whose clause has this unit: it is false, or goes on
-at_hint : (active : ℕ → Option (List ℕ)) (place id : ℕ) (trues c : List ℕ) (l : ℕ) (more : List ℕ) → active id ≡ Some c → is_unit trues c l ≡ true
+pub at_hint : (active : ℕ → Option (List ℕ)) (place id : ℕ) (trues c : List ℕ) (l : ℕ) (more : List ℕ) → active id ≡ Some c → is_unit trues c l ≡ true
     → (has trues (neg l) ≡ false → hints_fail_from active (place + 1) (l ∷ trues) more ≡ None) → (o : Left) → left trues c ≡ o → hints_fail_from active place trues (id ∷ more) ≡ None
 unfolding hints_fail_from
 at_hint active place id trues c l more at u next Falsified e = rw (at, e) refl

@@ -1,5 +1,5 @@
 -- What callers see of an engine: its clauses, its trail and its greatest reserved variable.
-use Rattle.std.specs.Prelude.{nat_eq, ◌≡◌, ◌≢◌, ℕ, zero, suc, ◌+◌, ◌≤◌, Bool, true, false, List, [], ◌∷◌, ◌++◌, length, map, filter, find, Contains, Option, None, Some, IsTrue, is_none, if◌then◌else◌, option_and_then, refl}
+use Rattle.std.specs.Prelude.{nat_eq, ◌≡◌, ◌≢◌, ℕ, zero, suc, ◌+◌, ◌<◌, ◌≤◌, Bool, true, false, List, [], ◌∷◌, ◌++◌, length, map, filter, find, position, Contains, Option, None, Some, IsTrue, is_none, if◌then◌else◌, option_and_then, refl}
 use Rattle.std.specs.FinMap as finmap
 use Rattle.std.specs.Coded.{Coded, code_by, coded×, coded_list, coded_option, coded_ℕ}
 use Rattle.lits.specs.Literal.{max_var, var, neg}
@@ -124,10 +124,17 @@ pub record IsRestored (old : EngineView) (id : ℕ) (new : EngineView) : Type 0 
   pub fresh : (x : ℕ) → slot_of old.clauses x ≢ Some slot
   pub changed : new ≡ with_clauses old (finmap.insert old.clauses id (record { literals = literals_at old.clauses id; slot = Some slot }))
 
--- the first literal stands before the second
-abbrev pub stands_before : List ℕ → ℕ → ℕ → Bool
-stands_before [] a b = false
-stands_before (x ∷ xs) a b = if nat_eq x a then has xs b else (if nat_eq x b then false else stands_before xs a b)
+-- the place of a literal among the true ones, counted from 0, or none
+abbrev pub place_in : List ℕ → ℕ → Option ℕ
+place_in trues l = position (nat_eq l) trues
+
+-- the first literal came on the trail before the second
+pub record CameBefore (trues : List ℕ) (one two : ℕ) : Type 0 where
+  pub place_one : ℕ
+  pub place_two : ℕ
+  pub at_one : place_in trues one ≡ Some place_one
+  pub at_two : place_in trues two ≡ Some place_two
+  pub order : place_one < place_two
 
 -- the reason of a true literal, or none
 abbrev pub reason_in : List Step → ℕ → Option ℕ

@@ -1,11 +1,11 @@
 // The true literals in their order. The value of each literal lies in a table by its code, the level of a true one and the
 // place of its step in a table by its variable, so that no question goes over the trail.
 
-ghost use Rattle.std.specs.Prelude.{◌≡◌, ℕ, ◌≤◌, ◌<◌, List, [], length, take, drop, max, OnOk, OnErr, IsTrue, is_some};
+ghost use Rattle.std.specs.Prelude.{◌≡◌, ℕ, ◌≤◌, ◌<◌, List, [], length, take, drop, max, OnOk, OnErr, IsOk, IsTrue, is_some};
 ghost use Rattle.lits.specs.Literal.{max_var, var, neg};
 ghost use Rattle.session_rules.specs.Logic.{has};
 ghost use Rattle.propagation.specs.declared.Step.{Step};
-ghost use Rattle.propagation.specs.Engine.{literals, level_after, level_behind, reason_in, value_in, up_to_level};
+ghost use Rattle.propagation.specs.Engine.{literals, level_after, level_behind, reason_in, value_in, place_in, up_to_level};
 ghost use Rattle.propagation.specs.Assigned.{Assigned, nothing_assigned, with_last, with_steps, with_reason, raised, lowered, value_of, IsNew, AreFreed};
 
 use crate::Step;
@@ -106,6 +106,7 @@ impl Assignment {
         requires { vars ≤ max_var }
         ensures ok { OnOk result (self.new ≡ record { steps = self.old.steps; vars = max self.old.vars vars }) }
         ensures err { OnErr result (self.new ≡ self.old) }
+        ensures enough { vars ≤ self.old.vars → IsOk result }
     {
         let before = self.values.len();
         let count = vars as usize;
@@ -264,17 +265,24 @@ impl Assignment {
         }
     }
 
+    /// The place of a true literal, counted from 0.
+    pub(crate) fn place_of(&self, l: Lit) -> Option<usize>
+        ensures { result ≡ place_in (literals self.now.steps) l }
+    {
+        match self.entry(l) {
+            Value::True => Some(self.marks[(l.var() - 1) as usize].place as usize),
+            Value::False => None,
+            Value::Free => None,
+        }
+    }
+
     /// The reason of a true literal.
     pub(crate) fn reason(&self, l: Lit) -> Option<Slot>
         ensures { result ≡ reason_in self.now.steps l }
     {
-        match self.entry(l) {
-            Value::True => {
-                let place = self.marks[(l.var() - 1) as usize].place as usize;
-                self.steps[place].reason
-            }
-            Value::False => None,
-            Value::Free => None,
+        match self.place_of(l) {
+            Some(place) => self.steps[place].reason,
+            None => None,
         }
     }
 

@@ -3,19 +3,19 @@
 //! see the clauses without the order of their literals and their links, so that a body may move watches as it likes.
 #![tactic(auto)]
 
-ghost use Rattle.std.specs.Prelude.{◌≡◌, ◌≢◌, ℕ, ◌+◌, ◌<◌, ◌≤◌, List, [], ◌++◌, ◌∷◌, ◌⊎◌, length, take, drop, slice_index, max, OnOk, OnErr, IfOk, IfErr, IfSome, IfNone, MatchOption, Contains, IsTrue, Bool, true, false, ◌||◌, nat_eq, Some, None, is_some};
+ghost use Rattle.std.specs.Prelude.{◌≡◌, ◌≢◌, ℕ, ◌+◌, ◌<◌, ◌≤◌, List, [], ◌++◌, ◌∷◌, ◌⊎◌, ◌↔◌, length, take, drop, slice_index, max, OnOk, OnErr, IsOk, IfOk, IfErr, IfSome, IfNone, MatchOption, Contains, IsTrue, Bool, true, false, ◌||◌, nat_eq, Some, None, is_some};
 ghost use Rattle.std.specs.List.{list_all};
 ghost use Rattle.lits.specs.Literal.{max_var, neg};
 ghost use Rattle.session_rules.specs.Logic as logic;
 ghost use Rattle.std.specs.FinMap as finmap;
-ghost use Rattle.clause_store.specs.Clauses.{is_held, slot_at, lits_at, IsFresh, new_clause};
+ghost use Rattle.clause_store.specs.Clauses.{is_held, slot_at, lits_at, IsFresh, IsStore, new_clause};
 ghost use Rattle.propagation.specs.Watching.{engine_of, IsMoved, Rests};
 ghost use Rattle.propagation.specs.declared.Step.{Step};
 ghost use Rattle.propagation.specs.Clauses.{clauses_of, active, active_at, slot_of, literals_at, is_weakened};
 ghost use Rattle.watch_lists.specs.Watched.{AreReserved, IsWatched};
 ghost use Rattle.propagation.specs.Inside.{AreShorts};
 ghost use Rattle.lits.specs.Literal.{var};
-ghost use Rattle.propagation.specs.Engine.{EngineView, literals, level_after, value_in, IsFree, IsStep, IsEngine, IsFalseAt, IsPropagated, Grows, with_step, with_trail, with_vars, with_clauses, active_clause, no_engine, reason_in, level_behind, IsNoReason, IsSomeReason, IsReasonOf, IsOtherUnit, IsRestored, weakened_clause, stands_before, ReasonsAre, AssumesFrom, IsOnce, up_to_level};
+ghost use Rattle.propagation.specs.Engine.{EngineView, literals, level_after, value_in, IsFree, IsStep, IsEngine, IsFalseAt, IsPropagated, Grows, with_step, with_trail, with_vars, with_clauses, active_clause, no_engine, reason_in, level_behind, IsNoReason, IsSomeReason, IsReasonOf, IsOtherUnit, IsRestored, weakened_clause, place_in, CameBefore, ReasonsAre, AssumesFrom, IsOnce, up_to_level};
 
 mod assignment;
 mod watching;
@@ -117,11 +117,12 @@ impl Engine {
     }
 
     /// Makes room for the variables up to this one, so that their literals may be used. Where memory is wanting the engine
-    /// stays.
+    /// stays; what is reserved already needs none.
     pub fn reserve(&mut self, vars: u32) -> Result<(), AllocError>
         requires { vars ≤ max_var }
         ensures ok { OnOk result (self.new ≡ with_vars self.old (max self.old.vars vars)) }
         ensures err { OnErr result (self.new ≡ self.old) }
+        ensures enough { vars ≤ self.old.vars → IsOk result }
     {
         if vars <= self.trail.vars() {
             return Ok(());
@@ -175,7 +176,8 @@ impl Engine {
         requires free { IsFree (literals self.old.trail) (slice_index lits.now 0) }
         requires others { (l : ℕ) → Contains (drop 1 lits.now) l → IsTrue (logic.has (literals self.old.trail) (neg l)) }
         requires distinct { IsOnce lits.now }
-        requires last { (l : ℕ) → Contains (drop 2 lits.now) l → IsTrue (stands_before (literals self.old.trail) (neg l) (neg (slice_index lits.now 1))) }
+        requires last { (l : ℕ) → Contains (drop 2 lits.now) l
+            → CameBefore (literals self.old.trail) (neg l) (neg (slice_index lits.now 1)) }
         ensures ok { IfOk result (λ s. self.new ≡ with_step (with_clauses self.old (finmap.insert self.old.clauses id (active_clause lits.now s))) (slice_index lits.now 0) (Some s)) }
         ensures err { IfErr result (λ _. self.new ≡ self.old) }
         ensures fresh { IfOk result (λ s. (x : ℕ) → slot_of self.old.clauses x ≢ Some s) }
@@ -244,6 +246,7 @@ impl Engine {
     pub fn is_reason(&self, id: u64) -> bool
         ensures yes { IsTrue result → IsSomeReason self.now id }
         ensures no { result ≡ false → IsNoReason self.now id }
+        ensures sound { IsEngine self.now }
     {
         self.forced_by(id).is_some()
     }
@@ -252,6 +255,7 @@ impl Engine {
     fn forced_by(&self, id: u64) -> Option<Lit>
         ensures some { IfSome result (λ l. IsReasonOf self.now id l) }
         ensures none { IfNone result (IsNoReason self.now id) }
+        ensures sound { IsEngine self.now }
     {
         match self.watches.find(id) {
             Some(slot) => forced_among(&self.trail, self.watches.lits(slot), slot),
@@ -301,28 +305,45 @@ impl Engine {
 
     /// The level: how many literals of the trail were assumed.
     pub fn level(&self) -> u32
-        ensures { result ≡ level_after self.now.trail }
+        ensures value { result ≡ level_after self.now.trail }
+        ensures sound { IsEngine self.now }
     {
         self.trail.level()
     }
 
     /// The level at which the literal or its negation came on the trail; None exactly where it is free.
     pub fn level_of(&self, l: Lit) -> Option<u32>
-        ensures { result ≡ level_behind 0 self.now.trail l }
+        ensures value { result ≡ level_behind 0 self.now.trail l }
+        ensures sound { IsEngine self.now }
     {
         self.trail.level_of(l)
     }
 
+    /// The place of a literal on the trail, an index of `trail`; None exactly where it isn't on it. What came on the trail
+    /// later has the greater place.
+    pub fn place_of(&self, l: Lit) -> Option<usize>
+        ensures value { result ≡ place_in (literals self.now.trail) l }
+        ensures sound { IsEngine self.now }
+    {
+        self.trail.place_of(l)
+    }
+
     /// The reason of a literal; None exactly where it isn't on the trail or was assumed.
     pub fn reason(&self, l: Lit) -> Option<Slot>
-        ensures { result ≡ reason_in self.now.trail l }
+        ensures value { result ≡ reason_in self.now.trail l }
+        ensures sound { IsEngine self.now }
     {
         self.trail.reason(l)
     }
 
-    /// The clauses.
+    /// The clauses as they are stored. The list of an active clause's slot has the literals of its set.
     pub fn store(&self) -> &Store
-        ensures { clauses_of result.now ≡ self.now.clauses }
+        ensures clauses { clauses_of result.now ≡ self.now.clauses }
+        ensures stored { IsStore result.now }
+        ensures slots { (id : ℕ) → slot_at result.now id ≡ slot_of self.now.clauses id }
+        ensures literals { (id : ℕ) (c : List ℕ) → active_at self.now.clauses id ≡ Some c
+            → (l : ℕ) → logic.has (lits_at result.now id) l ≡ logic.has c l }
+        ensures sound { IsEngine self.now }
     {
         self.watches.store()
     }
@@ -348,7 +369,8 @@ impl Engine {
 
     /// The greatest reserved variable, 0 where there is none.
     pub fn vars(&self) -> u32
-        ensures { result ≡ self.now.vars }
+        ensures value { result ≡ self.now.vars }
+        ensures sound { IsEngine self.now }
     {
         self.trail.vars()
     }
@@ -476,16 +498,45 @@ fn add_listed(
     }
 }
 
-/// Where nothing follows there is no closing sequence.
+/// What a trail says of closing sequences and of hints. Where nothing follows there is no closing sequence; the reasons along a
+/// trail and a false clause close, and so do the reasons alone where a literal of the start is false.
 pub fn law_of_trails()
-    ensures quiet { (e : EngineView) (ls : List ℕ) → IsEngine e → IsPropagated e → ((l : ℕ) → IsTrue (logic.has ls l) → IsTrue (logic.has (literals e.trail) l)) → logic.Closes (active e.clauses) ls → ⊥ }
-    ensures hints { (e : EngineView) (ls ids : List ℕ) (s id : ℕ) → IsEngine e → AssumesFrom e.trail ls → ReasonsAre e.clauses e.trail ids → IsFalseAt e s → slot_of e.clauses id ≡ Some s
+    ensures quiet { (e : EngineView) (ls : List ℕ) → IsEngine e → IsPropagated e
+        → ((l : ℕ) → IsTrue (logic.has ls l) → IsTrue (logic.has (literals e.trail) l))
+        → logic.Closes (active e.clauses) ls → ⊥ }
+    ensures hints { (e : EngineView) (ls ids : List ℕ) (s id : ℕ) → IsEngine e → AssumesFrom e.trail ls
+        → ReasonsAre e.clauses e.trail ids → IsFalseAt e s → slot_of e.clauses id ≡ Some s
         → logic.hints_fail (active_at e.clauses) ls (ids ++ id ∷ []) ≡ None }
-    ensures opposite { (e : EngineView) (ls ids : List ℕ) (l : ℕ) → IsEngine e → AssumesFrom e.trail ls → ReasonsAre e.clauses e.trail ids → IsTrue (logic.has ls l) → IsTrue (logic.has (literals e.trail) (neg l))
+    ensures opposite { (e : EngineView) (ls ids : List ℕ) (l : ℕ) → IsEngine e → AssumesFrom e.trail ls
+        → ReasonsAre e.clauses e.trail ids → IsTrue (logic.has ls l) → IsTrue (logic.has (literals e.trail) (neg l))
         → logic.hints_fail (active_at e.clauses) ls ids ≡ None }
-    ensures once { (e : EngineView) (ids : List ℕ) (s id : ℕ) → IsEngine e → ReasonsAre e.clauses e.trail ids → IsFalseAt e s → slot_of e.clauses id ≡ Some s → IsOnce (ids ++ id ∷ []) }
+    ensures once { (e : EngineView) (ids : List ℕ) (s id : ℕ) → IsEngine e → ReasonsAre e.clauses e.trail ids
+        → IsFalseAt e s → slot_of e.clauses id ≡ Some s → IsOnce (ids ++ id ∷ []) }
     ensures once_reasons { (e : EngineView) (ids : List ℕ) → IsEngine e → ReasonsAre e.clauses e.trail ids → IsOnce ids }
     ensures lower { (n : ℕ) (ss : List Step) → level_after (up_to_level n ss) ≤ n }
+{}
+
+/// Without assumptions, and where propagation has ended and no clause is false, the literals of the trail are just the forced
+/// ones. Those of level 0 are forced in any case.
+pub fn law_of_forced_literals()
+    ensures exactly { (e : EngineView) (l : ℕ) → IsEngine e → IsPropagated e → level_after e.trail ≡ 0
+        → IsTrue (logic.has (literals e.trail) l) ↔ logic.Forced (active e.clauses) l }
+    ensures sound { (e : EngineView) (l : ℕ) → IsEngine e → IsTrue (logic.has (literals (up_to_level 0 e.trail)) l)
+        → logic.Forced (active e.clauses) l }
+    ensures complete { (e : EngineView) (l : ℕ) → IsPropagated e → logic.Forced (active e.clauses) l
+        → IsTrue (logic.has (literals e.trail) l) }
+{}
+
+/// What an entry of the trail says of its literal: its place, its level and its reason.
+pub fn law_of_places()
+    ensures place { (e : EngineView) (before after : List Step) (s : Step) → IsEngine e → e.trail ≡ before ++ s ∷ after
+        → place_in (literals e.trail) s.lit ≡ Some (length before) }
+    ensures level { (e : EngineView) (before after : List Step) (s : Step) → IsEngine e → e.trail ≡ before ++ s ∷ after
+        → level_behind 0 e.trail s.lit ≡ Some (level_after (before ++ s ∷ [])) }
+    ensures reason { (e : EngineView) (before after : List Step) (s : Step) → IsEngine e → e.trail ≡ before ++ s ∷ after
+        → reason_in e.trail s.lit ≡ s.reason }
+    ensures negation { (e : EngineView) (l : ℕ) → IsEngine e → IsTrue (logic.has (literals e.trail) l)
+        → logic.has (literals e.trail) (neg l) ≡ false }
 {}
 
 #[cfg(test)]
