@@ -3,7 +3,7 @@ use Rattle.std.proofs.Common.{◌≡◌, ℕ, ◌+◌, ◌≤◌, true, false, �
 use Rattle.std.proofs.lemmas.Bool.{cases_Bool, both_ways, or_cases, or_left, or_right}
 use Rattle.std.proofs.lemmas.List.{append-nil}
 use Rattle.session_rules.specs.Logic.{has, is_unit, Propagates, trues_after, Forced}
-use Rattle.propagation.specs.declared.Step.{Step}
+use Rattle.propagation.specs.declared.TrailEntry.{TrailEntry}
 use Rattle.propagation.specs.Clauses.{active}
 use Rattle.propagation.specs.Engine.{EngineView, IsEngine, IsQuiet, IsPropagated, literals, level_after, up_to_level, with_trail}
 use Rattle.propagation.proofs.ClausesMap.{Contains-active, at_active}
@@ -12,30 +12,30 @@ use Rattle.propagation.proofs.Levels.{up_to_level-prefix, level_after-up_to_leve
 use Rattle.propagation.proofs.Trail.{IsEngine-prefix, level_after-append}
 
 -- an assumed entry raises the level
-pub level_after-assumed : (before after : List Step) (s : Step) → s.reason ≡ None → 0 ≡ level_after (before ++ s ∷ after) → ⊥
+pub level_after-assumed : (before after : List TrailEntry) (s : TrailEntry) → s.reason ≡ None → 0 ≡ level_after (before ++ s ∷ after) → ⊥
 level_after-assumed before after s r z = let e = level_after-append before (s ∷ after) in let f : level_after (s ∷ after) ≡ 1 + level_after after = rw r (omega arith) in absurd (omega (arith, e, f, z))
 
 -- a sequence of propagations after which each of these literals is true
 record Gives (cs : List (List ℕ)) (trues all : List ℕ) : Type 0 where
-  pub steps : List (List ℕ × ℕ)
-  pub right : Propagates cs trues steps
-  pub each : Within all (trues_after trues steps)
+  pub entries : List (List ℕ × ℕ)
+  pub right : Propagates cs trues entries
+  pub each : Within all (trues_after trues entries)
 
 gives-cons : (cs : List (List ℕ)) (trues all c : List ℕ) (l : ℕ) → Contains cs c → is_unit trues c l ≡ true → Gives cs (l ∷ trues) all → Gives cs trues all
-gives-cons cs trues all c l m u g = record { steps = (c, l) ∷ g.steps; right = (m, u, g.right); each = g.each }
+gives-cons cs trues all c l m u g = record { entries = (c, l) ∷ g.entries; right = (m, u, g.right); each = g.each }
 
-gives_along : (e : EngineView) → IsEngine e → level_after e.trail ≡ 0 → (before after : List Step) → e.trail ≡ before ++ after → (trues : List ℕ) → Within (literals before) trues → Gives (active e.clauses) trues (literals e.trail)
-gives_along e k z before [] at trues w = record { steps = []; right = tt; each = λ q h. w q (subst (λ x. has (literals x) q ≡ true) (at ∙ append-nil before) h) }
+gives_along : (e : EngineView) → IsEngine e → level_after e.trail ≡ 0 → (before after : List TrailEntry) → e.trail ≡ before ++ after → (trues : List ℕ) → Within (literals before) trues → Gives (active e.clauses) trues (literals e.trail)
+gives_along e k z before [] at trues w = record { entries = []; right = tt; each = λ q h. w q (subst (λ x. has (literals x) q ≡ true) (at ∙ append-nil before) h) }
 gives_along e k z before (s ∷ after) at trues w = by_reason s.reason refl (gives_along e k z (before ++ s ∷ []) after (at ∙ sym (append_assoc before (s ∷ []) after)) (s.lit ∷ trues)
     (λ q h. elim (has-push before s q h) [ inl f ↦ or_right (nat_eq q s.lit) (has trues q) (w q f) | inr f ↦ or_left (nat_eq q s.lit) (has trues q) (eq-eqb q s.lit f) ]))
   where
     by_reason : (o : Option ℕ) → s.reason ≡ o → Gives (active e.clauses) (s.lit ∷ trues) (literals e.trail) → Gives (active e.clauses) trues (literals e.trail)
     by_reason None r g = absurd (level_after-assumed before after s r (sym (sym (ap level_after at) ∙ z)))
-    by_reason (Some t) r g = let y = (k.steps before after s at).reason t r in
+    by_reason (Some t) r g = let y = (k.entries before after s at).reason t r in
         gives-cons (active e.clauses) trues (literals e.trail) y.1 s.lit (Contains-active e.clauses y.0 y.1 y.3) (unit-within (literals before) trues y.1 s.lit w y.4) g
 
 pub forced_without_assumption : (e : EngineView) (l : ℕ) → IsEngine e → level_after e.trail ≡ 0 → has (literals e.trail) l ≡ true → Forced (active e.clauses) l
-forced_without_assumption e l k z h = let g = gives_along e k z [] e.trail refl [] (λ q f. f) in (g.steps, g.right, g.each l h)
+forced_without_assumption e l k z h = let g = gives_along e k z [] e.trail refl [] (λ q f. f) in (g.entries, g.right, g.each l h)
 
 pub forced_at_zero : (e : EngineView) (l : ℕ) → IsEngine e → has (literals (up_to_level 0 e.trail)) l ≡ true → Forced (active e.clauses) l
 forced_at_zero e l k h =

@@ -4,7 +4,7 @@ use Rattle.std.specs.FinMap as finmap
 use Rattle.std.specs.Coded.{Coded, code_by, coded×, coded_list, coded_option, coded_ℕ}
 use Rattle.lits.specs.Literal.{max_var, var, neg}
 use Rattle.session_rules.specs.Logic.{has, is_falsified, is_unit}
-use Rattle.propagation.specs.declared.Step.{Step}
+use Rattle.propagation.specs.declared.TrailEntry.{TrailEntry}
 use Rattle.lits.specs.Clause.{set_of}
 pub use Rattle.clause_store.specs.Clauses.{IsOnce}
 use Rattle.propagation.specs.Clauses.{Clause, Clauses, clause_code, slot_of, active_at, literals_at}
@@ -13,27 +13,27 @@ use Rattle.propagation.specs.Clauses.{Clause, Clauses, clause_code, slot_of, act
 pub record EngineView : Type 0 where
   pub clauses : Clauses
   -- the true literals, oldest first, each with the slot of its reason, or none where it was assumed
-  pub trail : List Step
+  pub trail : List TrailEntry
   pub vars : ℕ
 
--- a step is stored as its parts
-abbrev pub step_code : Coded Step
-step_code = code_by (ℕ × Option ℕ) (coded× coded_ℕ (coded_option coded_ℕ)) (λ s. (s.lit, s.reason)) (λ p. record { lit = p.0; reason = p.1 }) (λ _. refl)
+-- an entry is stored as its parts
+abbrev pub entry_code : Coded TrailEntry
+entry_code = code_by (ℕ × Option ℕ) (coded× coded_ℕ (coded_option coded_ℕ)) (λ s. (s.lit, s.reason)) (λ p. record { lit = p.0; reason = p.1 }) (λ _. refl)
 
 -- an engine is stored as its parts
 abbrev pub engine_code : Coded EngineView
-engine_code = code_by (Clauses × (List Step × ℕ)) (coded× (finmap.code coded_ℕ clause_code) (coded× (coded_list step_code) coded_ℕ)) (λ e. (e.clauses, (e.trail, e.vars))) (λ p. record { clauses = p.0; trail = p.1.0; vars = p.1.1 }) (λ _. refl)
+engine_code = code_by (Clauses × (List TrailEntry × ℕ)) (coded× (finmap.code coded_ℕ clause_code) (coded× (coded_list entry_code) coded_ℕ)) (λ e. (e.clauses, (e.trail, e.vars))) (λ p. record { clauses = p.0; trail = p.1.0; vars = p.1.1 }) (λ _. refl)
 
 -- the literals of a trail
-abbrev pub literals : List Step → List ℕ
+abbrev pub literals : List TrailEntry → List ℕ
 literals ss = map (λ s. s.lit) ss
 
--- whether a step was assumed
-abbrev pub is_assumed : Step → Bool
+-- whether an entry was assumed
+abbrev pub is_assumed : TrailEntry → Bool
 is_assumed s = is_none s.reason
 
 -- how many of them were assumed: the level that is reached
-abbrev pub level_after : List Step → ℕ
+abbrev pub level_after : List TrailEntry → ℕ
 level_after ss = length (filter is_assumed ss)
 
 -- the value of a literal
@@ -49,14 +49,14 @@ abbrev pub IsReason : Clauses → List ℕ → ℕ → ℕ → Type 0
 IsReason m trues l s = (id : ℕ) × (c : List ℕ) × (slot_of m id ≡ Some s) × (active_at m id ≡ Some c) × IsTrue (is_unit trues c l)
 
 -- what holds of a literal when it comes on the trail behind these
-pub record IsStep (m : Clauses) (vars : ℕ) (before : List Step) (s : Step) : Type 0 where
+pub record IsEntry (m : Clauses) (vars : ℕ) (before : List TrailEntry) (s : TrailEntry) : Type 0 where
   pub reserved : var s.lit ≤ vars
   pub free : IsFree (literals before) s.lit
   pub reason : (r : ℕ) → s.reason ≡ Some r → IsReason m (literals before) s.lit r
 
 -- what holds of every engine
 pub record IsEngine (e : EngineView) : Type 0 where
-  pub steps : (before after : List Step) (s : Step) → e.trail ≡ before ++ s ∷ after → IsStep e.clauses e.vars before s
+  pub entries : (before after : List TrailEntry) (s : TrailEntry) → e.trail ≡ before ++ s ∷ after → IsEntry e.clauses e.vars before s
   -- two active clauses have different slots
   pub slots_apart : (a b s : ℕ) → slot_of e.clauses a ≡ Some s → slot_of e.clauses b ≡ Some s → a ≡ b
   -- and the variables of each clause, active or weakened, are reserved
@@ -76,25 +76,25 @@ pub record IsQuiet (trues c : List ℕ) : Type 0 where
 abbrev pub IsPropagated : EngineView → Type 0
 IsPropagated e = (id : ℕ) (c : List ℕ) → active_at e.clauses id ≡ Some c → IsQuiet (literals e.trail) c
 
--- the engine with one more step
-abbrev pub with_step : EngineView → ℕ → Option ℕ → EngineView
-with_step e l r = record { clauses = e.clauses; trail = e.trail ++ record { lit = l; reason = r } ∷ []; vars = e.vars }
+-- the engine with one more entry
+abbrev pub with_entry : EngineView → ℕ → Option ℕ → EngineView
+with_entry e l r = record { clauses = e.clauses; trail = e.trail ++ record { lit = l; reason = r } ∷ []; vars = e.vars }
 
 -- the engine with this trail
-abbrev pub with_trail : EngineView → List Step → EngineView
+abbrev pub with_trail : EngineView → List TrailEntry → EngineView
 with_trail e ss = record { clauses = e.clauses; trail = ss; vars = e.vars }
 
 -- the trail has grown at its end by literals with reasons, and nothing else has changed
 abbrev pub Grows : EngineView → EngineView → Type 0
-Grows old new = (added : List Step) × (new ≡ with_trail old (old.trail ++ added)) × (level_after added ≡ 0)
+Grows old new = (added : List TrailEntry) × (new ≡ with_trail old (old.trail ++ added)) × (level_after added ≡ 0)
 
--- a step that begins a level, and what is kept behind it
-abbrev pub up_to_next : ℕ → Step → (ℕ → List Step) → List Step
+-- an entry that begins a level, and what is kept behind it
+abbrev pub up_to_next : ℕ → TrailEntry → (ℕ → List TrailEntry) → List TrailEntry
 up_to_next zero s rest = []
 up_to_next (suc n) s rest = s ∷ rest n
 
 -- the trail with the literals up to this level alone: it ends before the assumption that begins the next
-unfoldable pub up_to_level : ℕ → List Step → List Step
+unfoldable pub up_to_level : ℕ → List TrailEntry → List TrailEntry
 up_to_level n [] = []
 up_to_level n (s ∷ ss) = if is_assumed s then up_to_next n s (λ k. up_to_level k ss) else s ∷ up_to_level n ss
 
@@ -111,8 +111,8 @@ abbrev pub no_engine : EngineView
 no_engine = record { clauses = finmap.empty; trail = []; vars = 0 }
 
 -- an active clause of these literals
-abbrev pub active_clause : List ℕ → ℕ → Clause
-active_clause ls s = record { literals = set_of ls; slot = Some s }
+abbrev pub added_clause : List ℕ → ℕ → Clause
+added_clause ls s = record { literals = set_of ls; slot = Some s }
 
 -- a weakened clause of this set
 abbrev pub weakened_clause : List ℕ → Clause
@@ -137,16 +137,16 @@ pub record CameBefore (trues : List ℕ) (one two : ℕ) : Type 0 where
   pub order : place_one < place_two
 
 -- the reason of a true literal, or none
-abbrev pub reason_in : List Step → ℕ → Option ℕ
+abbrev pub reason_in : List TrailEntry → ℕ → Option ℕ
 reason_in ss l = option_and_then (λ s. s.reason) (find (λ s. nat_eq s.lit l) ss)
 
 -- the clause is a literal's reason
 abbrev pub IsSomeReason : EngineView → ℕ → Type 0
-IsSomeReason e id = (s : Step) × (r : ℕ) × Contains e.trail s × (s.reason ≡ Some r) × (slot_of e.clauses id ≡ Some r)
+IsSomeReason e id = (s : TrailEntry) × (r : ℕ) × Contains e.trail s × (s.reason ≡ Some r) × (slot_of e.clauses id ≡ Some r)
 
 -- the clause is no literal's reason
 abbrev pub IsNoReason : EngineView → ℕ → Type 0
-IsNoReason e id = (s : Step) (r : ℕ) → Contains e.trail s → s.reason ≡ Some r → slot_of e.clauses id ≡ Some r → ⊥
+IsNoReason e id = (s : TrailEntry) (r : ℕ) → Contains e.trail s → s.reason ≡ Some r → slot_of e.clauses id ≡ Some r → ⊥
 
 -- the clause is this literal's reason
 abbrev pub IsReasonOf : EngineView → ℕ → ℕ → Type 0
@@ -157,7 +157,7 @@ abbrev pub IsOtherUnit : EngineView → ℕ → ℕ → ℕ → Type 0
 IsOtherUnit e id l s = (x : ℕ) × (x ≢ id) × (slot_of e.clauses x ≡ Some s) × (active_at e.clauses x ≡ Some (l ∷ []))
 
 -- the level at which the literal or its negation came on the trail, where so many are assumed before
-unfoldable pub level_behind : ℕ → List Step → ℕ → Option ℕ
+unfoldable pub level_behind : ℕ → List TrailEntry → ℕ → Option ℕ
 level_behind n [] l = None
 level_behind n (s ∷ ss) l = let m = (if is_assumed s then n + 1 else n) in if nat_eq (var s.lit) (var l) then Some m else level_behind m ss l
 
@@ -167,10 +167,10 @@ reason_named m None rest ids = rest ids
 reason_named m (Some r) rest ids = (id : ℕ) × (more : List ℕ) × (ids ≡ id ∷ more) × (slot_of m id ≡ Some r) × rest more
 
 -- the ids name the reasons along a trail
-abbrev pub ReasonsAre : Clauses → List Step → List ℕ → Type 0
+abbrev pub ReasonsAre : Clauses → List TrailEntry → List ℕ → Type 0
 ReasonsAre m [] ids = ids ≡ []
 ReasonsAre m (s ∷ ss) ids = reason_named m s.reason (ReasonsAre m ss) ids
 
 -- the assumed literals of a trail are among these
-abbrev pub AssumesFrom : List Step → List ℕ → Type 0
-AssumesFrom ss ls = (before after : List Step) (s : Step) → ss ≡ before ++ s ∷ after → s.reason ≡ None → IsTrue (has ls s.lit)
+abbrev pub AssumesFrom : List TrailEntry → List ℕ → Type 0
+AssumesFrom ss ls = (before after : List TrailEntry) (s : TrailEntry) → ss ≡ before ++ s ∷ after → s.reason ≡ None → IsTrue (has ls s.lit)

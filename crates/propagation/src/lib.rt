@@ -9,19 +9,19 @@ ghost use Rattle.lits.specs.Literal.{max_var, neg};
 ghost use Rattle.session_rules.specs.Logic as logic;
 ghost use Rattle.std.specs.FinMap as finmap;
 ghost use Rattle.clause_store.specs.Clauses.{is_held, slot_at, lits_at, IsFresh, IsStore, new_clause};
-ghost use Rattle.propagation.specs.Watching.{engine_of, IsMoved, Rests};
-ghost use Rattle.propagation.specs.declared.Step.{Step};
+ghost use Rattle.propagation.specs.Watching.{engine_of, IsMoved, NeedsNoVisit};
+ghost use Rattle.propagation.specs.declared.TrailEntry.{TrailEntry};
 ghost use Rattle.propagation.specs.Clauses.{clauses_of, active, active_at, slot_of, literals_at, is_weakened};
 ghost use Rattle.watch_lists.specs.Watched.{AreReserved, IsWatched};
-ghost use Rattle.propagation.specs.Inside.{AreShorts};
+ghost use Rattle.propagation.specs.Inside.{ArePending};
 ghost use Rattle.lits.specs.Literal.{var};
-ghost use Rattle.propagation.specs.Engine.{EngineView, literals, level_after, value_in, IsFree, IsStep, IsEngine, IsFalseAt, IsPropagated, Grows, with_step, with_trail, with_vars, with_clauses, active_clause, no_engine, reason_in, level_behind, IsNoReason, IsSomeReason, IsReasonOf, IsOtherUnit, IsRestored, weakened_clause, place_in, CameBefore, ReasonsAre, AssumesFrom, IsOnce, up_to_level};
+ghost use Rattle.propagation.specs.Engine.{EngineView, literals, level_after, value_in, IsFree, IsEntry, IsEngine, IsFalseAt, IsPropagated, Grows, with_entry, with_trail, with_vars, with_clauses, added_clause, no_engine, reason_in, level_behind, IsNoReason, IsSomeReason, IsReasonOf, IsOtherUnit, IsRestored, weakened_clause, place_in, CameBefore, ReasonsAre, AssumesFrom, IsOnce, up_to_level};
 
 mod assignment;
 mod watching;
 
 use crate::assignment::Assignment;
-use crate::watching::{advance, keep_short, look_at, rests};
+use crate::watching::{keep_short, look_at, needs_no_visit, propagate_trail, recall_invariant};
 use clause_store::{Slot, Store, StoreFault};
 use lits::{Lit, LitSet};
 use std::alloc::{AllocError, Global};
@@ -30,14 +30,14 @@ use watch_lists::Watches;
 
 /// A literal of the trail and the clause that forced it, or none where it was assumed.
 #[derive(Clone, Copy)]
-pub struct Step {
+pub struct TrailEntry {
     lit: Lit,
     reason: Option<Slot>,
 }
 
 /// What follows of a clause: it is false, all but one free literal are, or nothing follows.
 #[derive(Clone, Copy)]
-enum Pending {
+enum Consequence {
     False,
     Unit(Lit),
     Quiet,
@@ -45,8 +45,8 @@ enum Pending {
 
 /// The first of the literals that is true with this reason.
 fn forced_among(trail: &Assignment, lits: &[Lit], slot: Slot) -> Option<Lit>
-    ensures some { IfSome result (λ l. reason_in trail.now.steps l ≡ Some slot) }
-    ensures none { IfNone result ((l : ℕ) → Contains lits.now l → reason_in trail.now.steps l ≡ Some slot → ⊥) }
+    ensures some { IfSome result (λ l. reason_in trail.now.entries l ≡ Some slot) }
+    ensures none { IfNone result ((l : ℕ) → Contains lits.now l → reason_in trail.now.entries l ≡ Some slot → ⊥) }
 {
     for l in lits {
         if let Some(reason) = trail.reason(*l) {
@@ -62,7 +62,7 @@ fn forced_among(trail: &Assignment, lits: &[Lit], slot: Slot) -> Option<Lit>
 #[derive(Clone, Copy)]
 struct Heads {
     trail: usize,
-    shorts: usize,
+    pending: usize,
 }
 
 /// Clauses, and a trail of true literals. Contracts see the clauses without the order of their literals, the trail, and
@@ -75,9 +75,9 @@ pub struct Engine {
     head: usize,
     // the ids of clauses that are looked at whatever they watch: those of fewer than two literals, and those of which something
     // followed when they were added
-    shorts: Vec<u64>,
+    pending: Vec<u64>,
     // how many of these have been looked at
-    short_head: usize,
+    pending_head: usize,
     // how many ids there may be before those are taken out that needn't be looked at
     limit: usize,
     // for each level that has begun, both heads as they were then
@@ -93,11 +93,11 @@ impl Model for Engine {
 
     ghost use Rattle.std.specs.Vec.{vec_capacity};
     ghost use Rattle.propagation.specs.Watching.{engine_of};
-    ghost use Rattle.propagation.specs.Inside.{IsInside};
+    ghost use Rattle.propagation.specs.Inside.{IsEngineInside};
 
-    ghost view = { λ e. engine_of e.watches.clauses e.trail.steps e.trail.vars };
+    ghost view = { λ e. engine_of e.watches.clauses e.trail.entries e.trail.vars };
 
-    ghost invariant = { λ e. IsInside e.watches e.trail e.head e.shorts.items e.short_head e.levels.items (vec_capacity e.levels) };
+    ghost invariant = { λ e. IsEngineInside e.watches e.trail e.head e.pending.items e.pending_head e.levels.items (vec_capacity e.levels) };
 }
 
 impl Engine {
@@ -109,8 +109,8 @@ impl Engine {
             watches: Watches::new(alloc),
             trail: Assignment::new(alloc),
             head: 0,
-            shorts: Vec::new(alloc),
-            short_head: 0,
+            pending: Vec::new(alloc),
+            pending_head: 0,
             limit: 0,
             levels: Vec::new(alloc),
         }
@@ -137,19 +137,19 @@ impl Engine {
     pub fn add(&mut self, id: u64, lits: &[Lit]) -> Result<Slot, StoreFault>
         requires level { level_after self.old.trail ≡ 0 }
         requires reserved { (l : ℕ) → Contains lits.now l → var l ≤ self.old.vars }
-        ensures ok { IfOk result (λ s. self.new ≡ with_clauses self.old (finmap.insert self.old.clauses id (active_clause lits.now s))) }
+        ensures ok { IfOk result (λ s. self.new ≡ with_clauses self.old (finmap.insert self.old.clauses id (added_clause lits.now s))) }
         ensures err { IfErr result (λ _. self.new ≡ self.old) }
         ensures fresh { IfOk result (λ s. (x : ℕ) → slot_of self.old.clauses x ≢ Some s) }
         ensures free { IfOk result (λ _. finmap.contains_key self.old.clauses id ≡ false) }
         ensures taken { IfErr result (λ e. IsTrue (finmap.contains_key self.old.clauses id) → e ≡ StoreFault.IdTaken) }
         ensures memory { IfErr result (λ e. finmap.contains_key self.old.clauses id ≡ false → e ≡ StoreFault.Memory) }
     {
-        let slot = match add_listed(&mut self.watches, &mut self.shorts, id, lits) {
+        let slot = match add_listed(&mut self.watches, &mut self.pending, id, lits) {
             Ok(slot) => slot,
             Err(fault) => return Err(fault),
         };
-        if rests(&mut self.watches, &self.trail, slot) {
-            let _ = self.shorts.pop();
+        if needs_no_visit(&mut self.watches, &self.trail, slot) {
+            let _ = self.pending.pop();
         }
         Ok(slot)
     }
@@ -157,14 +157,14 @@ impl Engine {
     /// Adds an active clause at any level, which is looked at before the next propagation.
     fn insert(&mut self, id: u64, lits: &[Lit]) -> Result<Slot, StoreFault>
         requires { (l : ℕ) → Contains lits.now l → var l ≤ self.old.vars }
-        ensures ok { IfOk result (λ s. self.new ≡ with_clauses self.old (finmap.insert self.old.clauses id (active_clause lits.now s))) }
+        ensures ok { IfOk result (λ s. self.new ≡ with_clauses self.old (finmap.insert self.old.clauses id (added_clause lits.now s))) }
         ensures err { IfErr result (λ _. self.new ≡ self.old) }
         ensures fresh { IfOk result (λ s. (x : ℕ) → slot_of self.old.clauses x ≢ Some s) }
         ensures free { IfOk result (λ _. finmap.contains_key self.old.clauses id ≡ false) }
         ensures taken { IfErr result (λ e. IsTrue (finmap.contains_key self.old.clauses id) → e ≡ StoreFault.IdTaken) }
         ensures memory { IfErr result (λ e. finmap.contains_key self.old.clauses id ≡ false → e ≡ StoreFault.Memory) }
     {
-        add_listed(&mut self.watches, &mut self.shorts, id, lits)
+        add_listed(&mut self.watches, &mut self.pending, id, lits)
     }
 
     /// Adds a clause whose first literal follows at the present level, and puts this on the trail with the clause as its reason.
@@ -178,7 +178,7 @@ impl Engine {
         requires distinct { IsOnce lits.now }
         requires last { (l : ℕ) → Contains (drop 2 lits.now) l
             → CameBefore (literals self.old.trail) (neg l) (neg (slice_index lits.now 1)) }
-        ensures ok { IfOk result (λ s. self.new ≡ with_step (with_clauses self.old (finmap.insert self.old.clauses id (active_clause lits.now s))) (slice_index lits.now 0) (Some s)) }
+        ensures ok { IfOk result (λ s. self.new ≡ with_entry (with_clauses self.old (finmap.insert self.old.clauses id (added_clause lits.now s))) (slice_index lits.now 0) (Some s)) }
         ensures err { IfErr result (λ _. self.new ≡ self.old) }
         ensures fresh { IfOk result (λ s. (x : ℕ) → slot_of self.old.clauses x ≢ Some s) }
         ensures free { IfOk result (λ _. finmap.contains_key self.old.clauses id ≡ false) }
@@ -234,10 +234,10 @@ impl Engine {
         if let Err(fault) = self.watches.restore(id) {
             return Err(fault);
         }
-        let _ = self.watches.store();
-        if !rests_at(&mut self.watches, &self.trail, id) {
+        recall_invariant(&self.watches);
+        if !needs_no_visit_at(&mut self.watches, &self.trail, id) {
             self.head = 0;
-            self.short_head = 0;
+            self.pending_head = 0;
         }
         Ok(())
     }
@@ -284,7 +284,7 @@ impl Engine {
     /// Makes an active clause no literal's reason, at level 0, so that it may be deleted or weakened. Where it forced a literal,
     /// the active clause of this literal alone with the least id takes its place; where there is none, or where it is this
     /// clause, the trail is emptied. It takes no memory.
-    pub fn release(&mut self, id: u64)
+    pub fn replace_reason(&mut self, id: u64)
         requires level { level_after self.old.trail ≡ 0 }
         ensures no_reason { IsNoReason self.new id }
         ensures level { level_after self.new.trail ≡ 0 }
@@ -298,7 +298,7 @@ impl Engine {
             return;
         };
         match self.other_unit(id, l) {
-            Some(slot) => self.trail.rest_on(l, slot),
+            Some(slot) => self.trail.replace_reason(l, slot),
             None => self.clear(),
         }
     }
@@ -352,10 +352,10 @@ impl Engine {
     pub fn clear(&mut self)
         ensures { self.new ≡ with_trail self.old [] }
     {
-        compact(&self.watches, &mut self.shorts, &mut self.limit);
+        compact(&self.watches, &mut self.pending, &mut self.limit);
         self.trail.clear();
         self.head = 0;
-        self.short_head = 0;
+        self.pending_head = 0;
         self.levels.clear();
     }
 
@@ -385,8 +385,8 @@ impl Engine {
 
     /// Puts a literal that follows at the trail's end.
     fn put(&mut self, l: Lit, reason: Slot)
-        requires { IsStep self.old.clauses self.old.vars self.old.trail (record { lit = l; reason = Some reason }) }
-        ensures { self.new ≡ with_step self.old l (Some reason) }
+        requires { IsEntry self.old.clauses self.old.vars self.old.trail (record { lit = l; reason = Some reason }) }
+        ensures { self.new ≡ with_entry self.old l (Some reason) }
     {
         self.trail.put(l, Some(reason));
     }
@@ -395,11 +395,11 @@ impl Engine {
     pub fn assume(&mut self, l: Lit)
         requires reserved { var l ≤ self.old.vars }
         requires free { IsFree (literals self.old.trail) l }
-        ensures { self.new ≡ with_step self.old l None }
+        ensures { self.new ≡ with_entry self.old l None }
     {
         self.levels.push_reserved(Heads {
             trail: self.head,
-            shorts: self.short_head,
+            pending: self.pending_head,
         });
         self.trail.put(l, None);
     }
@@ -415,13 +415,13 @@ impl Engine {
         if let Some(slot) = look_at(
             &mut self.watches,
             &mut self.trail,
-            &self.shorts,
-            &mut self.short_head,
+            &self.pending,
+            &mut self.pending_head,
         ) {
             return Some(slot);
         }
-        let found = advance(&mut self.watches, &mut self.trail, &mut self.head);
-        let _ = self.watches.store();
+        let found = propagate_trail(&mut self.watches, &mut self.trail, &mut self.head);
+        recall_invariant(&self.watches);
         found
     }
 
@@ -434,7 +434,7 @@ impl Engine {
         if kept < self.levels.len() {
             let heads = self.levels[kept];
             self.head = heads.trail;
-            self.short_head = heads.shorts;
+            self.pending_head = heads.pending;
             self.levels.truncate(kept);
             self.trail.back_to(level);
         }
@@ -442,26 +442,26 @@ impl Engine {
 }
 
 /// Looks at the clause of an id. Whether it is active, nothing follows of it and it has two literals or more.
-fn rests_at(watches: &mut Watches, trail: &Assignment, id: u64) -> bool
-    requires { IsEngine (engine_of watches.old.clauses trail.now.steps trail.now.vars) }
-    ensures moved { IsMoved (literals trail.now.steps) watches.old.clauses watches.new.clauses }
+fn needs_no_visit_at(watches: &mut Watches, trail: &Assignment, id: u64) -> bool
+    requires { IsEngine (engine_of watches.old.clauses trail.now.entries trail.now.vars) }
+    ensures moved { IsMoved (literals trail.now.entries) watches.old.clauses watches.new.clauses }
     ensures wide { length watches.new.lists ≡ length watches.old.lists }
     ensures sound { IsWatched watches.new }
-    ensures rests { IsTrue result → (q s : ℕ) → slot_at watches.new.clauses id ≡ Some s → slot_at watches.new.clauses q ≡ Some s → Rests (literals trail.now.steps) (lits_at watches.new.clauses q) }
+    ensures needs_no_visit { IsTrue result → (q s : ℕ) → slot_at watches.new.clauses id ≡ Some s → slot_at watches.new.clauses q ≡ Some s → NeedsNoVisit (literals trail.now.entries) (lits_at watches.new.clauses q) }
     ensures active { IsTrue result → IsTrue (is_some (slot_at watches.new.clauses id)) }
 {
     match watches.find(id) {
-        Some(slot) => rests(watches, trail, slot),
+        Some(slot) => needs_no_visit(watches, trail, slot),
         None => false,
     }
 }
 
 /// Takes out the ids that needn't be looked at where the trail is empty, if they have become many.
 fn compact(watches: &Watches, ids: &mut Vec<u64>, limit: &mut usize)
-    ensures kept { AreShorts (clauses_of watches.now.clauses) ids.old.items → AreShorts (clauses_of watches.now.clauses) ids.new.items }
+    ensures kept { ArePending (clauses_of watches.now.clauses) ids.old.items → ArePending (clauses_of watches.now.clauses) ids.new.items }
     ensures sound { IsWatched watches.now }
 {
-    let _ = watches.store();
+    recall_invariant(watches);
     if ids.len() > *limit {
         keep_short(watches, ids);
         *limit = ids.len().saturating_mul(2);
@@ -513,7 +513,7 @@ pub fn law_of_trails()
     ensures once { (e : EngineView) (ids : List ℕ) (s id : ℕ) → IsEngine e → ReasonsAre e.clauses e.trail ids
         → IsFalseAt e s → slot_of e.clauses id ≡ Some s → IsOnce (ids ++ id ∷ []) }
     ensures once_reasons { (e : EngineView) (ids : List ℕ) → IsEngine e → ReasonsAre e.clauses e.trail ids → IsOnce ids }
-    ensures lower { (n : ℕ) (ss : List Step) → level_after (up_to_level n ss) ≤ n }
+    ensures lower { (n : ℕ) (ss : List TrailEntry) → level_after (up_to_level n ss) ≤ n }
 {}
 
 /// Without assumptions, and where propagation has ended and no clause is false, the literals of the trail are just the forced
@@ -529,11 +529,11 @@ pub fn law_of_forced_literals()
 
 /// What an entry of the trail says of its literal: its place, its level and its reason.
 pub fn law_of_places()
-    ensures place { (e : EngineView) (before after : List Step) (s : Step) → IsEngine e → e.trail ≡ before ++ s ∷ after
+    ensures place { (e : EngineView) (before after : List TrailEntry) (s : TrailEntry) → IsEngine e → e.trail ≡ before ++ s ∷ after
         → place_in (literals e.trail) s.lit ≡ Some (length before) }
-    ensures level { (e : EngineView) (before after : List Step) (s : Step) → IsEngine e → e.trail ≡ before ++ s ∷ after
+    ensures level { (e : EngineView) (before after : List TrailEntry) (s : TrailEntry) → IsEngine e → e.trail ≡ before ++ s ∷ after
         → level_behind 0 e.trail s.lit ≡ Some (level_after (before ++ s ∷ [])) }
-    ensures reason { (e : EngineView) (before after : List Step) (s : Step) → IsEngine e → e.trail ≡ before ++ s ∷ after
+    ensures reason { (e : EngineView) (before after : List TrailEntry) (s : TrailEntry) → IsEngine e → e.trail ≡ before ++ s ∷ after
         → reason_in e.trail s.lit ≡ s.reason }
     ensures negation { (e : EngineView) (l : ℕ) → IsEngine e → IsTrue (logic.has (literals e.trail) l)
         → logic.has (literals e.trail) (neg l) ≡ false }

@@ -58,7 +58,7 @@ fn let_go(engine: &mut Engine, id: u64) -> bool
     if engine.level() != 0 {
         return false;
     }
-    engine.release(id);
+    engine.replace_reason(id);
     engine.delete(id).is_ok()
 }
 

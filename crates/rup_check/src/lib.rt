@@ -4,7 +4,7 @@
 ghost use Rattle.std.specs.Prelude.{◌≡◌, ℕ, ◌≤◌, List, ◌++◌, Contains, All, IsTrue, Bool, true, false, None, IfOk, OnErr, is_some};
 ghost use Rattle.lits.specs.Literal.{var, neg};
 ghost use Rattle.session_rules.specs.Logic as logic;
-ghost use Rattle.propagation.specs.declared.Step.{Step};
+ghost use Rattle.propagation.specs.declared.TrailEntry.{TrailEntry};
 ghost use Rattle.propagation.specs.Clauses.{active, active_at, slot_of};
 ghost use Rattle.propagation.specs.Engine.{literals, level_after, Grows, IsEngine, IsFalseAt, ReasonsAre, IsOnce};
 ghost use Rattle.rup_check.specs.Assuming.{Assumes, EndsAt};

@@ -7,14 +7,14 @@ use Rattle.propagation.proofs.assignment.Assignment.reason.Goals as goal
 
 pub index-requires : goal.index-requires
 index-requires c = let o = c.self.inside in
-    let at : Some c.in-Some.place ≡ place_in (literals o.steps.items) c.args.l = c.in-Some.ensures ∙ ap (λ z. place_in (literals z.steps) c.args.l) (sym c.self.view_is) in
-    let low = place-below o.steps.items c.args.l c.in-Some.place at in omega (arith, low, o.steps.ok.0)
+    let at : Some c.in-Some.place ≡ place_in (literals o.entries.items) c.args.l = c.in-Some.ensures ∙ ap (λ z. place_in (literals z.entries) c.args.l) (sym c.self.view_is) in
+    let low = place-below o.entries.items c.args.l c.in-Some.place at in omega (arith, low, o.entries.ok.0)
 
 pub returns-in-Some : goal.returns-in-Some
 returns-in-Some c = let o = c.self.inside in
-    let at : Some c.in-Some.place ≡ place_in (literals o.steps.items) c.args.l = c.in-Some.ensures ∙ ap (λ z. place_in (literals z.steps) c.args.l) (sym c.self.view_is) in
-    read-reason (length o.marks.items) o.steps.items c.args.l c.in-Some.place c.index.result.now c.self.invariant.each_new (place-entry o.steps.items c.args.l c.in-Some.place at) c.index.ensures
-    ∙ ap (λ z. reason_in z.steps c.args.l) c.self.view_is
+    let at : Some c.in-Some.place ≡ place_in (literals o.entries.items) c.args.l = c.in-Some.ensures ∙ ap (λ z. place_in (literals z.entries) c.args.l) (sym c.self.view_is) in
+    read-reason (length o.origins.items) o.entries.items c.args.l c.in-Some.place c.index.result.now c.self.invariant.each_new (place-entry o.entries.items c.args.l c.in-Some.place at) c.index.ensures
+    ∙ ap (λ z. reason_in z.entries c.args.l) c.self.view_is
 
 pub returns-in-None : goal.returns-in-None
-returns-in-None c = sym (reason-none c.args.self.now.steps c.args.l (no_place-absent c.args.self.now.steps c.args.l c.in-None.ensures))
+returns-in-None c = sym (reason-none c.args.self.now.entries c.args.l (no_place-absent c.args.self.now.entries c.args.l c.in-None.ensures))

@@ -1,4 +1,4 @@
--- How far the trail has been propagated: marks that are kept.
+-- How far the trail has been propagated, and that this is kept by each call.
 use Rattle.std.proofs.Common.{◌≡◌, ◌≢◌, ℕ, ◌≤◌, ◌⊎◌, List, [], ◌∷◌, ◌++◌, length, take, drop, Option, Some, None, refl, sym, ap, ◌∙◌, subst, inl, inr, arith, true, false, Bool, length-append}
 use Rattle.std.specs.Prelude.{slice_index, nat_lt, option_map, is_some, unwrap_or}
 use Rattle.std.proofs.lemmas.List.{drop-append-le}
@@ -17,8 +17,8 @@ use Rattle.watch_lists.proofs.FirstTwo.{once-lits, has-first, has-second, firsts
 use Rattle.watch_lists.proofs.Placed.{lits-literals}
 use Rattle.propagation.specs.Clauses.{Clause, Clauses, clauses_of, active_at, literals_at}
 use Rattle.propagation.specs.Engine.{literals, EngineView, IsEngine, IsPropagated}
-use Rattle.propagation.specs.Watching.{IsCovered, IsReady, IsMoved, Rests}
-use Rattle.propagation.specs.Inside.{HasPair, AreShorts, IsMark}
+use Rattle.propagation.specs.Watching.{IsCovered, IsReady, IsMoved, NeedsNoVisit}
+use Rattle.propagation.specs.Inside.{HasPair, ArePending, AreHeads}
 use Rattle.propagation.proofs.ClausesMap.{slot_of-clauses_of, slot_if_active}
 use Rattle.propagation.proofs.Changes.{cases, ties, differs, literals_seen, held_seen, held_if_active}
 use Rattle.propagation.proofs.Closing.{consistent_trail}
@@ -28,8 +28,8 @@ use Rattle.propagation.proofs.Scan.{done_quiet}
 
 -- ---- Orders that have changed
 
-pub mark_moved : (all ts : List ℕ) (m n : Store) (h s : ℕ) (ids : List ℕ) → IsMoved all m n → ((x : ℕ) → has ts x ≡ true → has all x ≡ true) → IsMark m ts h ids s → IsMark n ts h ids s
-mark_moved all ts m n h s ids v within k = record {
+pub heads_moved : (all ts : List ℕ) (m n : Store) (h s : ℕ) (ids : List ℕ) → IsMoved all m n → ((x : ℕ) → has ts x ≡ true → has all x ≡ true) → AreHeads m ts h ids s → AreHeads n ts h ids s
+heads_moved all ts m n h s ids v within k = record {
   head_in = k.head_in;
   ids_in = k.ids_in;
   ready = λ id t at. elim (k.ready id t (sym (v.slots id) ∙ at)) [
@@ -69,14 +69,14 @@ active_held : (m : Store) (id s : ℕ) → slot_at m id ≡ Some s → contains_
 active_held m id s at = held_seen m id ∙ held_if_active m id (let f : is_some (slot_at m id) ≡ true = rw at refl in f)
 
 -- at the beginning each clause is still to be looked at, or covered
-pub ready_start : (m : Store) (ts ids : List ℕ) → IsStore m → AreShorts (clauses_of m) ids → IsReady m ts 0 ids
-ready_start m ts ids k shorts id s at = elim (shorts id (active_held m id s at)) [
+pub ready_start : (m : Store) (ts ids : List ℕ) → IsStore m → ArePending (clauses_of m) ids → IsReady m ts 0 ids
+ready_start m ts ids k pending id s at = elim (pending id (active_held m id s at)) [
   | inl y ↦ inl y
   | inr p ↦ inr (inr (record { long = list_of_pair m id s k at p; one = refl; two = refl }))
 ]
 
-pub mark_start : (m : Store) (ts ids : List ℕ) → IsStore m → AreShorts (clauses_of m) ids → IsMark m ts 0 ids 0
-mark_start m ts ids k shorts = record { head_in = omega arith; ids_in = omega arith; ready = ready_start m ts ids k shorts }
+pub heads_start : (m : Store) (ts ids : List ℕ) → IsStore m → ArePending (clauses_of m) ids → AreHeads m ts 0 ids 0
+heads_start m ts ids k pending = record { head_in = omega arith; ids_in = omega arith; ready = ready_start m ts ids k pending }
 
 -- ---- One clause more, at the end of the ids
 
@@ -96,8 +96,8 @@ same_remove m n id e = record {
   lists = λ q o. subst (λ z. lits_at z q ≡ lits_at m q) (sym e) (rw (get-remove nat_cmp_total, differs q id o) refl);
 }
 
-pub mark_pushed : (m n : Store) (ts : List ℕ) (h s : ℕ) (ids : List ℕ) (id : ℕ) (c : Held) → n ≡ insert m id c → IsMark m ts h ids s → IsMark n ts h (ids ++ id ∷ []) s
-mark_pushed m n ts h s ids id c e k = let x = same_insert m n id c e in record {
+pub heads_pushed : (m n : Store) (ts : List ℕ) (h s : ℕ) (ids : List ℕ) (id : ℕ) (c : Held) → n ≡ insert m id c → AreHeads m ts h ids s → AreHeads n ts h (ids ++ id ∷ []) s
+heads_pushed m n ts h s ids id c e k = let x = same_insert m n id c e in record {
   head_in = k.head_in;
   ids_in = let le = k.ids_in in omega (arith, le, length-append ids (id ∷ []));
   ready = λ q t at. elim (cases q id) [
@@ -109,8 +109,8 @@ mark_pushed m n ts h s ids id c e k = let x = same_insert m n id c e in record {
   ];
 }
 
-pub shorts_pushed : (m n : Clauses) (ids : List ℕ) (id : ℕ) (c : Clause) → n ≡ insert m id c → AreShorts m ids → AreShorts n (ids ++ id ∷ [])
-shorts_pushed m n ids id c e k q on = elim (cases q id) [
+pub pending_pushed : (m n : Clauses) (ids : List ℕ) (id : ℕ) (c : Clause) → n ≡ insert m id c → ArePending m ids → ArePending n (ids ++ id ∷ [])
+pending_pushed m n ids id c e k q on = elim (cases q id) [
   | inl y ↦ inl (subst (λ z. has (ids ++ id ∷ []) z ≡ true) (sym y) (has_end ids id))
   | inr o ↦
       let same : get n q ≡ get m q = subst (λ z. get z q ≡ get m q) (sym e) (rw (get-insert nat_cmp_total, differs q id o) refl) in
@@ -129,8 +129,8 @@ member_last (y ∷ xs) x q m = elim (member_cases y q (xs ++ x ∷ []) m) [
   | inr n ↦ elim (member_last xs x q n) [ inl f ↦ inl (has-there y q xs f) | inr f ↦ inr f ]
 ]
 
-pub mark_popped : (m : Store) (ts : List ℕ) (h s : ℕ) (ids : List ℕ) (id slot : ℕ) → s ≤ length ids → slot_at m id ≡ Some slot → ((q : ℕ) → slot_at m q ≡ Some slot → Rests ts (lits_at m q)) → IsMark m ts h (ids ++ id ∷ []) s → IsMark m ts h ids s
-mark_popped m ts h s ids id slot le here rest k = record {
+pub heads_popped : (m : Store) (ts : List ℕ) (h s : ℕ) (ids : List ℕ) (id slot : ℕ) → s ≤ length ids → slot_at m id ≡ Some slot → ((q : ℕ) → slot_at m q ≡ Some slot → NeedsNoVisit ts (lits_at m q)) → AreHeads m ts h (ids ++ id ∷ []) s → AreHeads m ts h ids s
+heads_popped m ts h s ids id slot le here rest k = record {
   head_in = k.head_in;
   ids_in = le;
   ready = λ q t at. elim (k.ready q t at) [
@@ -145,8 +145,8 @@ mark_popped m ts h s ids id slot le here rest k = record {
   ];
 }
 
-pub shorts_popped : (m : Store) (ids : List ℕ) (id slot : ℕ) → IsStore m → slot_at m id ≡ Some slot → 2 ≤ length (lits_at m id) → AreShorts (clauses_of m) (ids ++ id ∷ []) → AreShorts (clauses_of m) ids
-shorts_popped m ids id slot k here long shorts q on = elim (shorts q on) [
+pub pending_popped : (m : Store) (ids : List ℕ) (id slot : ℕ) → IsStore m → slot_at m id ≡ Some slot → 2 ≤ length (lits_at m id) → ArePending (clauses_of m) (ids ++ id ∷ []) → ArePending (clauses_of m) ids
+pending_popped m ids id slot k here long pending q on = elim (pending q on) [
   | inl y ↦ elim (member_last ids id q y) [
     | inl f ↦ inl f
     | inr f ↦ inr (subst (λ z. HasPair (literals_at (clauses_of m) z)) (sym f) (pair_of_list m id slot k here long))
@@ -156,8 +156,8 @@ shorts_popped m ids id slot k here long shorts q on = elim (shorts q on) [
 
 -- ---- One active clause fewer
 
-pub mark_fewer : (m n : Store) (ts : List ℕ) (h s : ℕ) (ids : List ℕ) (id : ℕ) → ((q : ℕ) → q ≢ id → slot_at n q ≡ slot_at m q) → ((q : ℕ) → q ≢ id → lits_at n q ≡ lits_at m q) → slot_at n id ≡ None → IsMark m ts h ids s → IsMark n ts h ids s
-mark_fewer m n ts h s ids id slots lists gone k = record {
+pub heads_fewer : (m n : Store) (ts : List ℕ) (h s : ℕ) (ids : List ℕ) (id : ℕ) → ((q : ℕ) → q ≢ id → slot_at n q ≡ slot_at m q) → ((q : ℕ) → q ≢ id → lits_at n q ≡ lits_at m q) → slot_at n id ≡ None → AreHeads m ts h ids s → AreHeads n ts h ids s
+heads_fewer m n ts h s ids id slots lists gone k = record {
   head_in = k.head_in;
   ids_in = k.ids_in;
   ready = λ q t at. elim (cases q id) [
@@ -169,16 +169,16 @@ mark_fewer m n ts h s ids id slots lists gone k = record {
   ];
 }
 
-pub mark_removed : (m n : Store) (ts : List ℕ) (h s : ℕ) (ids : List ℕ) (id : ℕ) → n ≡ remove m id → IsMark m ts h ids s → IsMark n ts h ids s
-mark_removed m n ts h s ids id e k = let x = same_remove m n id e in
-    mark_fewer m n ts h s ids id x.slots x.lists (subst (λ z. slot_at z id ≡ None) (sym e) (rw (get-remove nat_cmp_total, ties id) refl)) k
+pub heads_removed : (m n : Store) (ts : List ℕ) (h s : ℕ) (ids : List ℕ) (id : ℕ) → n ≡ remove m id → AreHeads m ts h ids s → AreHeads n ts h ids s
+heads_removed m n ts h s ids id e k = let x = same_remove m n id e in
+    heads_fewer m n ts h s ids id x.slots x.lists (subst (λ z. slot_at z id ≡ None) (sym e) (rw (get-remove nat_cmp_total, ties id) refl)) k
 
-pub mark_weakened : (m n : Store) (ts : List ℕ) (h s : ℕ) (ids : List ℕ) (id : ℕ) → n ≡ insert m id (held.weakened_clause (held.literals_at m id)) → IsMark m ts h ids s → IsMark n ts h ids s
-mark_weakened m n ts h s ids id e k = let x = same_insert m n id _ e in
-    mark_fewer m n ts h s ids id x.slots x.lists (subst (λ z. slot_at z id ≡ None) (sym e) (rw (get-insert nat_cmp_total, ties id) refl)) k
+pub heads_weakened : (m n : Store) (ts : List ℕ) (h s : ℕ) (ids : List ℕ) (id : ℕ) → n ≡ insert m id (held.weakened_clause (held.literals_at m id)) → AreHeads m ts h ids s → AreHeads n ts h ids s
+heads_weakened m n ts h s ids id e k = let x = same_insert m n id _ e in
+    heads_fewer m n ts h s ids id x.slots x.lists (subst (λ z. slot_at z id ≡ None) (sym e) (rw (get-insert nat_cmp_total, ties id) refl)) k
 
-pub shorts_removed : (m n : Clauses) (ids : List ℕ) (id : ℕ) → n ≡ remove m id → AreShorts m ids → AreShorts n ids
-shorts_removed m n ids id e k q on = elim (cases q id) [
+pub pending_removed : (m n : Clauses) (ids : List ℕ) (id : ℕ) → n ≡ remove m id → ArePending m ids → ArePending n ids
+pending_removed m n ids id e k q on = elim (cases q id) [
   | inl y ↦
       let none : get n id ≡ None = subst (λ z. get z id ≡ None) (sym e) (rw (get-remove nat_cmp_total, ties id) refl) in
       absurd (both_ways _ (let f : is_some (get n id) ≡ false = rw none refl in f) (ap (λ z. is_some (get n z)) (sym y) ∙ on))
@@ -191,8 +191,8 @@ shorts_removed m n ids id e k q on = elim (cases q id) [
 ]
 
 -- a clause that is held keeps its literals
-pub shorts_kept : (m n : Clauses) (ids : List ℕ) (id : ℕ) (c : Clause) → n ≡ insert m id c → contains_key m id ≡ true → c.literals ≡ literals_at m id → AreShorts m ids → AreShorts n ids
-shorts_kept m n ids id c e on_before lits k q on = elim (cases q id) [
+pub pending_kept : (m n : Clauses) (ids : List ℕ) (id : ℕ) (c : Clause) → n ≡ insert m id c → contains_key m id ≡ true → c.literals ≡ literals_at m id → ArePending m ids → ArePending n ids
+pending_kept m n ids id c e on_before lits k q on = elim (cases q id) [
   | inl y ↦
       let here : get n id ≡ Some c = subst (λ z. get z id ≡ Some c) (sym e) (rw (get-insert nat_cmp_total, ties id) refl) in
       let same : literals_at n id ≡ literals_at m id = ap (λ z. unwrap_or (option_map (λ d. d.literals) z) []) here ∙ lits in
@@ -233,8 +233,8 @@ active_list m q long = by_place (held.place_at m q) refl
     by_place None e = let none : lits_at m q ≡ [] = rw e refl in absurd (let l = ap length none in omega (arith, l, long))
     by_place (Some p) e = (p.slot, rw e refl)
 
-pub shorts_kept_short : (m : Store) (ids fewer : List ℕ) → IsStore m → fewer ≡ filter (λ id. nat_lt (length (lits_at m id)) 2) ids → AreShorts (clauses_of m) ids → AreShorts (clauses_of m) fewer
-shorts_kept_short m ids fewer k is shorts q on = elim (shorts q on) [
+pub pending_kept_short : (m : Store) (ids fewer : List ℕ) → IsStore m → fewer ≡ filter (λ id. nat_lt (length (lits_at m id)) 2) ids → ArePending (clauses_of m) ids → ArePending (clauses_of m) fewer
+pending_kept_short m ids fewer k is pending q on = elim (pending q on) [
   | inr p ↦ inr p
   | inl y ↦ elim (cases_Bool (nat_lt (length (lits_at m q)) 2)) [
     | inl t ↦ inl (subst (λ z. has z q ≡ true) (sym is) (kept_member (λ id. nat_lt (length (lits_at m id)) 2) ids q y t))
