@@ -12,6 +12,6 @@ returns-in_default-clause-judged c = weakening_none c.store.result.now c.args.p.
 
 pub returns-in-Ok-clause-judged : goal.returns-in-Ok-clause-judged
 returns-in-Ok-clause-judged c = subst (λ z. Judged z c.args.p.now.next c.args.p.now.events (clauses_of_engine c.weaken.new.self) c.args.p.now.next c.args.p.now.events (steps.Weaken c.args.lits.now) None)
-    (ap (kept_by kept_of_clause) c.release.ensures.clauses)
-    (weakening_done c.store.result.now c.release.new.self c.weaken.new.self (c.store.ensures.clauses ∙ sym c.release.ensures.clauses) _ _ _ c.in_ok-set.set c.in_ok-set.ensures.set
+    (ap (kept_by kept_of_clause) c.replace_reason.ensures.clauses)
+    (weakening_done c.store.result.now c.replace_reason.new.self c.weaken.new.self (c.store.ensures.clauses ∙ sym c.replace_reason.ensures.clauses) _ _ _ c.in_ok-set.set c.in_ok-set.ensures.set
     c.in-Some.id c.in-Some.ensures.found c.in-Ok.ensures.ok)
