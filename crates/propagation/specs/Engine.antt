@@ -1,5 +1,5 @@
 -- What callers see of an engine: its clauses, its trail and its greatest reserved variable.
-use Rattle.std.specs.Prelude.{nat_eq, ◌≡◌, ◌≢◌, ℕ, zero, suc, ◌+◌, ◌<◌, ◌≤◌, Bool, true, false, List, [], ◌∷◌, ◌++◌, length, map, filter, find, position, Contains, Option, None, Some, IsTrue, is_none, if◌then◌else◌, option_and_then, refl}
+use Rattle.std.specs.Prelude.{nat_eq, ◌≡◌, ◌≢◌, ℕ, zero, suc, ◌+◌, ◌<◌, ◌≤◌, Bool, true, false, List, [], ◌∷◌, ◌++◌, length, map, filter, find, position, Contains, Option, None, Some, IsTrue, is_none, is_some, if◌then◌else◌, option_and_then, refl}
 use Rattle.std.specs.FinMap as finmap
 use Rattle.std.specs.Coded.{Coded, code_by, coded×, coded_list, coded_option, coded_ℕ}
 use Rattle.lits.specs.Literal.{max_var, var, neg}
@@ -7,7 +7,7 @@ use Rattle.session_rules.specs.Logic.{has, is_falsified, is_unit}
 use Rattle.propagation.specs.declared.TrailEntry.{TrailEntry}
 use Rattle.lits.specs.Clause.{set_of}
 pub use Rattle.clause_store.specs.Clauses.{IsOnce}
-use Rattle.propagation.specs.Clauses.{Clause, Clauses, clause_code, slot_of, active_at, literals_at}
+use Rattle.propagation.specs.Clauses.{Clause, Clauses, clause_code, slot_of, active_at, literals_at, is_weakened}
 
 -- an engine
 pub record EngineView : Type 0 where
@@ -39,6 +39,18 @@ level_after ss = length (filter is_assumed ss)
 -- the value of a literal
 abbrev pub value_in : List ℕ → ℕ → Option Bool
 value_in trues l = if has trues l then Some true else (if has trues (neg l) then Some false else None)
+
+-- the place of a literal among the true ones, counted from 0, or none
+abbrev pub place_in : List ℕ → ℕ → Option ℕ
+place_in trues l = position (nat_eq l) trues
+
+-- the first literal came on the trail before the second
+pub record CameBefore (trues : List ℕ) (one two : ℕ) : Type 0 where
+  pub place_one : ℕ
+  pub place_two : ℕ
+  pub at_one : place_in trues one ≡ Some place_one
+  pub at_two : place_in trues two ≡ Some place_two
+  pub order : place_one < place_two
 
 -- neither the literal nor its negation is true
 abbrev pub IsFree : List ℕ → ℕ → Type 0
@@ -118,23 +130,53 @@ added_clause ls s = record { literals = set_of ls; slot = Some s }
 abbrev pub weakened_clause : List ℕ → Clause
 weakened_clause set = record { literals = set; slot = None }
 
+-- the engine with an active clause of these literals at this slot
+abbrev pub with_added : EngineView → ℕ → List ℕ → ℕ → EngineView
+with_added e id ls s = with_clauses e (finmap.insert e.clauses id (added_clause ls s))
+
+-- the engine without the clause of this id
+abbrev pub without_clause : EngineView → ℕ → EngineView
+without_clause e id = with_clauses e (finmap.remove e.clauses id)
+
+-- the engine with the clause of this id weakened
+abbrev pub with_weakened : EngineView → ℕ → EngineView
+with_weakened e id = with_clauses e (finmap.insert e.clauses id (weakened_clause (literals_at e.clauses id)))
+
+-- whether the id is that of a clause, of an active one, of a weakened one
+abbrev pub has_clause : EngineView → ℕ → Bool
+has_clause e id = finmap.contains_key e.clauses id
+
+abbrev pub has_active : EngineView → ℕ → Bool
+has_active e id = is_some (slot_of e.clauses id)
+
+abbrev pub has_weakened : EngineView → ℕ → Bool
+has_weakened e id = is_weakened e.clauses id
+
+-- no active clause has the slot
+abbrev pub IsFreshSlot : EngineView → ℕ → Type 0
+IsFreshSlot e s = (x : ℕ) → slot_of e.clauses x ≢ Some s
+
+-- the literals' variables are reserved
+abbrev pub HasRoomFor : EngineView → List ℕ → Type 0
+HasRoomFor e ls = (l : ℕ) → Contains ls l → var l ≤ e.vars
+
+-- each of the literals is false
+abbrev pub AreFalse : EngineView → List ℕ → Type 0
+AreFalse e ls = (l : ℕ) → Contains ls l → IsTrue (has (literals e.trail) (neg l))
+
+-- the negations of these literals came on the trail before that of this one
+abbrev pub FellBefore : EngineView → List ℕ → ℕ → Type 0
+FellBefore e ls last = (l : ℕ) → Contains ls l → CameBefore (literals e.trail) (neg l) (neg last)
+
+-- the id is that of an active clause of this literal alone
+abbrev pub IsUnitClause : EngineView → ℕ → ℕ → Type 0
+IsUnitClause e id l = active_at e.clauses id ≡ Some (l ∷ [])
+
 -- the weakened clause is active again, at a slot that no active clause had
 pub record IsRestored (old : EngineView) (id : ℕ) (new : EngineView) : Type 0 where
   pub slot : ℕ
   pub fresh : (x : ℕ) → slot_of old.clauses x ≢ Some slot
   pub changed : new ≡ with_clauses old (finmap.insert old.clauses id (record { literals = literals_at old.clauses id; slot = Some slot }))
-
--- the place of a literal among the true ones, counted from 0, or none
-abbrev pub place_in : List ℕ → ℕ → Option ℕ
-place_in trues l = position (nat_eq l) trues
-
--- the first literal came on the trail before the second
-pub record CameBefore (trues : List ℕ) (one two : ℕ) : Type 0 where
-  pub place_one : ℕ
-  pub place_two : ℕ
-  pub at_one : place_in trues one ≡ Some place_one
-  pub at_two : place_in trues two ≡ Some place_two
-  pub order : place_one < place_two
 
 -- the reason of a true literal, or none
 abbrev pub reason_in : List TrailEntry → ℕ → Option ℕ
@@ -154,7 +196,7 @@ IsReasonOf e id l = (r : ℕ) × (slot_of e.clauses id ≡ Some r) × (reason_in
 
 -- the slot is that of another active clause, which is of this literal alone
 abbrev pub IsOtherUnit : EngineView → ℕ → ℕ → ℕ → Type 0
-IsOtherUnit e id l s = (x : ℕ) × (x ≢ id) × (slot_of e.clauses x ≡ Some s) × (active_at e.clauses x ≡ Some (l ∷ []))
+IsOtherUnit e id l s = (x : ℕ) × (x ≢ id) × (slot_of e.clauses x ≡ Some s) × IsUnitClause e x l
 
 -- the level at which the literal or its negation came on the trail, where so many are assumed before
 unfoldable pub level_behind : ℕ → List TrailEntry → ℕ → Option ℕ

@@ -1,5 +1,6 @@
-// The true literals in their order. The value of each literal lies in a table by its code, the level of a true one and the
-// place of its entry in a table by its variable, so that no question goes over the trail.
+// The true literals in their order. The value of each literal lies in a table by its code, and of each variable with a value
+// the level and the place of its entry in a table by variable, so that no question goes over the trail. The second table is
+// never emptied: it is read only where the first says that the variable has a value.
 
 ghost use Rattle.std.specs.Prelude.{◌≡◌, ℕ, ◌≤◌, ◌<◌, List, [], length, take, drop, max, OnOk, OnErr, IsOk, IsTrue, is_some};
 ghost use Rattle.lits.specs.Literal.{max_var, var, neg};

@@ -1,6 +1,31 @@
-//! Unit propagation over a store of clauses. An engine owns its clauses and a trail: the literals that are true, oldest
-//! first, each assumed or forced by an active clause, its reason, whose other literals were made false earlier. Contracts
-//! see the clauses without the order of their literals and their links, so that a body may move watches as it likes.
+//! Unit propagation: what follows of clauses and of literals that are assumed, clause by clause.
+//!
+//! An [`Engine`] owns clauses and a trail, the literals that are true, oldest first. A literal on the trail was assumed, and
+//! then it begins a level, or it follows of an active clause, its reason, whose other literals became false earlier.
+//! `propagate` extends the trail until nothing more follows or a clause is false; `back_to` takes the higher levels off.
+//!
+//! Most of a checker's time goes into this, so that three things are to be known of how it is done.
+//!
+//! - **Two watched literals** (M. Moskewicz, C. Madigan, Y. Zhao, L. Zhang and S. Malik, 2001). As long as two literals of a
+//!   clause aren't false, nothing follows of it. So each clause is entered in the lists of two of its literals, its watches,
+//!   and it is looked at only when one of these becomes false. Without them each literal that becomes true would cost a look at
+//!   each clause that has its negation. Taking literals off the trail costs nothing here: where two literals weren't false,
+//!   they aren't false on a shorter trail.
+//! - **Blockers** (N. Sörensson and N. Eén, in MiniSat 2.1, 2008). Each entry of a list holds another literal of the clause.
+//!   Where it is true the clause is passed over without being read, which spares most reads of memory.
+//! - **The trail is kept between the lines of a proof.** What follows without an assumption is propagated once, and not for each
+//!   lemma anew. So clauses come and go while the trail stays. A clause that is added may begin with literals that are false
+//!   already: two that aren't are brought to its front, and where it has no two such literals, its id goes to the *pending*
+//!   clauses, which are looked at before the lists are walked. A clause that goes may be the reason of a literal:
+//!   `replace_reason` looks for another one, or empties the trail. Without the first a unit would be missed; without the
+//!   second a literal would stay true that nothing forces any more.
+//!
+//! How far propagation has come is told by two heads: so many literals of the trail have had their lists walked, and so many
+//! pending clauses have been looked at. Both are saved where a level begins, so that going back restores them.
+//!
+//! Contracts see three things: the clauses (for each id its literal set, and its slot where it is active), the trail, and the
+//! greatest reserved variable. They don't see the order of a clause's literals and the lists, so that a body may move
+//! watches as it likes.
 #![tactic(auto)]
 
 ghost use Rattle.std.specs.Prelude.{◌≡◌, ◌≢◌, ℕ, ◌+◌, ◌<◌, ◌≤◌, List, [], ◌++◌, ◌∷◌, ◌⊎◌, ◌↔◌, length, take, drop, slice_index, max, OnOk, OnErr, IsOk, IfOk, IfErr, IfSome, IfNone, MatchOption, Contains, IsTrue, Bool, true, false, ◌||◌, nat_eq, Some, None, is_some};
@@ -15,7 +40,7 @@ ghost use Rattle.propagation.specs.Clauses.{clauses_of, active, active_at, slot_
 ghost use Rattle.watch_lists.specs.Watched.{AreReserved, IsWatched};
 ghost use Rattle.propagation.specs.Inside.{ArePending};
 ghost use Rattle.lits.specs.Literal.{var};
-ghost use Rattle.propagation.specs.Engine.{EngineView, literals, level_after, value_in, IsFree, IsEntry, IsEngine, IsFalseAt, IsPropagated, Grows, with_entry, with_trail, with_vars, with_clauses, added_clause, no_engine, reason_in, level_behind, IsNoReason, IsSomeReason, IsReasonOf, IsOtherUnit, IsRestored, weakened_clause, place_in, CameBefore, ReasonsAre, AssumesFrom, IsOnce, up_to_level};
+ghost use Rattle.propagation.specs.Engine.{EngineView, literals, level_after, value_in, IsFree, IsEntry, IsEngine, IsFalseAt, IsPropagated, Grows, with_entry, with_trail, with_vars, with_added, without_clause, with_weakened, has_clause, has_active, has_weakened, IsFreshSlot, HasRoomFor, AreFalse, FellBefore, IsUnitClause, no_engine, reason_in, level_behind, IsNoReason, IsSomeReason, IsReasonOf, IsOtherUnit, IsRestored, place_in, ReasonsAre, AssumesFrom, IsOnce, up_to_level};
 
 mod assignment;
 mod watching;
@@ -136,13 +161,13 @@ impl Engine {
     /// weakened; the engine stays after each refusal.
     pub fn add(&mut self, id: u64, lits: &[Lit]) -> Result<Slot, StoreFault>
         requires level { level_after self.old.trail ≡ 0 }
-        requires reserved { (l : ℕ) → Contains lits.now l → var l ≤ self.old.vars }
-        ensures ok { IfOk result (λ s. self.new ≡ with_clauses self.old (finmap.insert self.old.clauses id (added_clause lits.now s))) }
+        requires reserved { HasRoomFor self.old lits.now }
+        ensures ok { IfOk result (λ s. self.new ≡ with_added self.old id lits.now s) }
         ensures err { IfErr result (λ _. self.new ≡ self.old) }
-        ensures fresh { IfOk result (λ s. (x : ℕ) → slot_of self.old.clauses x ≢ Some s) }
-        ensures free { IfOk result (λ _. finmap.contains_key self.old.clauses id ≡ false) }
-        ensures taken { IfErr result (λ e. IsTrue (finmap.contains_key self.old.clauses id) → e ≡ StoreFault.IdTaken) }
-        ensures memory { IfErr result (λ e. finmap.contains_key self.old.clauses id ≡ false → e ≡ StoreFault.Memory) }
+        ensures fresh { IfOk result (IsFreshSlot self.old) }
+        ensures free { IfOk result (λ _. has_clause self.old id ≡ false) }
+        ensures taken { IfErr result (λ e. IsTrue (has_clause self.old id) → e ≡ StoreFault.IdTaken) }
+        ensures memory { IfErr result (λ e. has_clause self.old id ≡ false → e ≡ StoreFault.Memory) }
     {
         let slot = match add_listed(&mut self.watches, &mut self.pending, id, lits) {
             Ok(slot) => slot,
@@ -156,13 +181,13 @@ impl Engine {
 
     /// Adds an active clause at any level, which is looked at before the next propagation.
     fn insert(&mut self, id: u64, lits: &[Lit]) -> Result<Slot, StoreFault>
-        requires { (l : ℕ) → Contains lits.now l → var l ≤ self.old.vars }
-        ensures ok { IfOk result (λ s. self.new ≡ with_clauses self.old (finmap.insert self.old.clauses id (added_clause lits.now s))) }
+        requires { HasRoomFor self.old lits.now }
+        ensures ok { IfOk result (λ s. self.new ≡ with_added self.old id lits.now s) }
         ensures err { IfErr result (λ _. self.new ≡ self.old) }
-        ensures fresh { IfOk result (λ s. (x : ℕ) → slot_of self.old.clauses x ≢ Some s) }
-        ensures free { IfOk result (λ _. finmap.contains_key self.old.clauses id ≡ false) }
-        ensures taken { IfErr result (λ e. IsTrue (finmap.contains_key self.old.clauses id) → e ≡ StoreFault.IdTaken) }
-        ensures memory { IfErr result (λ e. finmap.contains_key self.old.clauses id ≡ false → e ≡ StoreFault.Memory) }
+        ensures fresh { IfOk result (IsFreshSlot self.old) }
+        ensures free { IfOk result (λ _. has_clause self.old id ≡ false) }
+        ensures taken { IfErr result (λ e. IsTrue (has_clause self.old id) → e ≡ StoreFault.IdTaken) }
+        ensures memory { IfErr result (λ e. has_clause self.old id ≡ false → e ≡ StoreFault.Memory) }
     {
         add_listed(&mut self.watches, &mut self.pending, id, lits)
     }
@@ -172,18 +197,17 @@ impl Engine {
     /// assigned last. Refusals are those of `add`.
     pub fn add_asserting(&mut self, id: u64, lits: &[Lit]) -> Result<Slot, StoreFault>
         requires some { 0 < length lits.now }
-        requires reserved { (l : ℕ) → Contains lits.now l → var l ≤ self.old.vars }
+        requires reserved { HasRoomFor self.old lits.now }
         requires free { IsFree (literals self.old.trail) (slice_index lits.now 0) }
-        requires others { (l : ℕ) → Contains (drop 1 lits.now) l → IsTrue (logic.has (literals self.old.trail) (neg l)) }
+        requires others { AreFalse self.old (drop 1 lits.now) }
         requires distinct { IsOnce lits.now }
-        requires last { (l : ℕ) → Contains (drop 2 lits.now) l
-            → CameBefore (literals self.old.trail) (neg l) (neg (slice_index lits.now 1)) }
-        ensures ok { IfOk result (λ s. self.new ≡ with_entry (with_clauses self.old (finmap.insert self.old.clauses id (added_clause lits.now s))) (slice_index lits.now 0) (Some s)) }
+        requires last { FellBefore self.old (drop 2 lits.now) (slice_index lits.now 1) }
+        ensures ok { IfOk result (λ s. self.new ≡ with_entry (with_added self.old id lits.now s) (slice_index lits.now 0) (Some s)) }
         ensures err { IfErr result (λ _. self.new ≡ self.old) }
-        ensures fresh { IfOk result (λ s. (x : ℕ) → slot_of self.old.clauses x ≢ Some s) }
-        ensures free { IfOk result (λ _. finmap.contains_key self.old.clauses id ≡ false) }
-        ensures taken { IfErr result (λ e. IsTrue (finmap.contains_key self.old.clauses id) → e ≡ StoreFault.IdTaken) }
-        ensures memory { IfErr result (λ e. finmap.contains_key self.old.clauses id ≡ false → e ≡ StoreFault.Memory) }
+        ensures fresh { IfOk result (IsFreshSlot self.old) }
+        ensures free { IfOk result (λ _. has_clause self.old id ≡ false) }
+        ensures taken { IfErr result (λ e. IsTrue (has_clause self.old id) → e ≡ StoreFault.IdTaken) }
+        ensures memory { IfErr result (λ e. has_clause self.old id ≡ false → e ≡ StoreFault.Memory) }
     {
         match self.insert(id, lits) {
             Ok(slot) => {
@@ -199,10 +223,10 @@ impl Engine {
     pub fn delete(&mut self, id: u64) -> Result<(), StoreFault>
         requires level { level_after self.old.trail ≡ 0 }
         requires no_reason { IsNoReason self.old id }
-        ensures ok { IfOk result (λ _. self.new ≡ with_clauses self.old (finmap.remove self.old.clauses id)) }
-        ensures active { IfOk result (λ _. IsTrue (is_some (slot_of self.old.clauses id))) }
+        ensures ok { IfOk result (λ _. self.new ≡ without_clause self.old id) }
+        ensures active { IfOk result (λ _. IsTrue (has_active self.old id)) }
         ensures err { IfErr result (λ e. (e ≡ StoreFault.NotActive) × (self.new ≡ self.old)) }
-        ensures inactive { IfErr result (λ _. is_some (slot_of self.old.clauses id) ≡ false) }
+        ensures inactive { IfErr result (λ _. has_active self.old id ≡ false) }
     {
         self.watches.delete(id)
     }
@@ -212,11 +236,11 @@ impl Engine {
     pub fn weaken(&mut self, id: u64) -> Result<(), StoreFault>
         requires level { level_after self.old.trail ≡ 0 }
         requires no_reason { IsNoReason self.old id }
-        ensures ok { IfOk result (λ _. self.new ≡ with_clauses self.old (finmap.insert self.old.clauses id (weakened_clause (literals_at self.old.clauses id)))) }
-        ensures active { IfOk result (λ _. IsTrue (is_some (slot_of self.old.clauses id))) }
+        ensures ok { IfOk result (λ _. self.new ≡ with_weakened self.old id) }
+        ensures active { IfOk result (λ _. IsTrue (has_active self.old id)) }
         ensures err { IfErr result (λ _. self.new ≡ self.old) }
-        ensures inactive { IfErr result (λ e. is_some (slot_of self.old.clauses id) ≡ false → e ≡ StoreFault.NotActive) }
-        ensures memory { IfErr result (λ e. IsTrue (is_some (slot_of self.old.clauses id)) → e ≡ StoreFault.Memory) }
+        ensures inactive { IfErr result (λ e. has_active self.old id ≡ false → e ≡ StoreFault.NotActive) }
+        ensures memory { IfErr result (λ e. IsTrue (has_active self.old id) → e ≡ StoreFault.Memory) }
     {
         self.watches.weaken(id)
     }
@@ -226,10 +250,10 @@ impl Engine {
     pub fn restore(&mut self, id: u64) -> Result<(), StoreFault>
         requires level { level_after self.old.trail ≡ 0 }
         ensures ok { IfOk result (λ _. IsRestored self.old id self.new) }
-        ensures weakened { IfOk result (λ _. IsTrue (is_weakened self.old.clauses id)) }
+        ensures weakened { IfOk result (λ _. IsTrue (has_weakened self.old id)) }
         ensures err { IfErr result (λ _. self.new ≡ self.old) }
-        ensures held { IfErr result (λ e. is_weakened self.old.clauses id ≡ false → e ≡ StoreFault.NotWeakened) }
-        ensures memory { IfErr result (λ e. IsTrue (is_weakened self.old.clauses id) → e ≡ StoreFault.Memory) }
+        ensures held { IfErr result (λ e. has_weakened self.old id ≡ false → e ≡ StoreFault.NotWeakened) }
+        ensures memory { IfErr result (λ e. IsTrue (has_weakened self.old id) → e ≡ StoreFault.Memory) }
     {
         if let Err(fault) = self.watches.restore(id) {
             return Err(fault);
@@ -266,7 +290,7 @@ impl Engine {
     /// The slot of an active clause of the literal alone, of that with the least id; None where this is the given id.
     fn other_unit(&self, id: u64, l: Lit) -> Option<Slot>
         ensures some { IfSome result (λ s. IsOtherUnit self.now id l s) }
-        ensures none { IfNone result ((x : ℕ) → active_at self.now.clauses x ≡ Some (l ∷ []) → active_at self.now.clauses id ≡ Some (l ∷ [])) }
+        ensures none { IfNone result ((x : ℕ) → IsUnitClause self.now x l → IsUnitClause self.now id l) }
     {
         let Ok(set) = LitSet::of(*self.levels.allocator(), &[l]) else {
             return None;
@@ -292,7 +316,8 @@ impl Engine {
         ensures vars { self.new.vars ≡ self.old.vars }
         ensures literals { (literals self.new.trail ≡ literals self.old.trail) ⊎ (self.new.trail ≡ []) }
         ensures kept { IsNoReason self.old id → self.new ≡ self.old }
-        ensures stays { (x l : ℕ) → IsReasonOf self.old id l → active_at self.old.clauses x ≡ Some (l ∷ []) → active_at self.old.clauses id ≢ Some (l ∷ []) → literals self.new.trail ≡ literals self.old.trail }
+        ensures stays { (x l : ℕ) → IsReasonOf self.old id l → IsUnitClause self.old x l → ¬ (IsUnitClause self.old id l)
+            → literals self.new.trail ≡ literals self.old.trail }
     {
         let Some(l) = self.forced_by(id) else {
             return;

@@ -1,6 +1,9 @@
-// Propagation by watches. A clause of two or more literals watches the first two of its list: as long as neither of them
-// is false nothing follows of it, so only the clauses that watch a literal are visited when it becomes false. Most of them
-// have a true literal, which the lists tell by their blockers without a look at the clause.
+// Propagation by watches. A clause of two or more literals watches the first two of its list. The invariant is that each
+// active clause is pending, has a true literal, or watches two literals that weren't made false by those true ones whose lists
+// have been walked (`IsCovered`). It holds on each shorter trail too, so that going back needs no work on the lists.
+//
+// A list is walked from its end to its front. A clause that finds another literal to watch leaves the list, and the last entry
+// takes its place, which has been visited already: so nothing is missed, and nothing is visited twice.
 
 ghost use Rattle.std.specs.Prelude.{◌≡◌, ℕ, ◌+◌, ◌*◌, ◌-◌, ◌<◌, ◌≤◌, ◌⊎◌, [], List, Some, length, take, drop, slice_index, nat_lt, IfSome, IfNone, IsTrue, true, false};
 ghost use Rattle.std.specs.List.{filter};

@@ -1,4 +1,12 @@
-//! Whether literals are refuted by unit propagation.
+//! Whether literals are refuted by unit propagation: the test by which a lemma and a core are checked.
+//!
+//! The engine's trail without assumptions is extended as far as it goes and stays so, since it serves the next test. Then the
+//! literals are assumed one after another, each as a level of its own, and propagation goes on. There is a closing sequence
+//! exactly where a literal to be assumed is false already, or a clause becomes false. Behind the test the engine is back at
+//! level 0.
+//!
+//! `closes_with` answers with hints, too: the reasons along the trail in their order, and the false clause last. These are
+//! more than are needed, but each is read once, and no search stands behind them.
 #![tactic(auto)]
 
 ghost use Rattle.std.specs.Prelude.{◌≡◌, ℕ, ◌≤◌, List, ◌++◌, Contains, All, IsTrue, Bool, true, false, None, IfOk, OnErr, is_some};
