@@ -105,7 +105,8 @@ fn are_opposite(last_true: &[u32], run_number: u32, start: &[Lit]) -> bool
 /// What is left of a clause.
 fn left_of(last_true: &[u32], run_number: u32, lits: &[Lit]) -> Left
     requires within { (l : ℕ) → Contains lits.now l → neg l < length last_true.now }
-    ensures left { (trues : List ℕ) → AreTrueIn last_true.now run_number trues → result ≡ logic.left trues lits.now }
+    ensures left { (trues : List ℕ) → AreTrueIn last_true.now run_number trues
+        → result ≡ logic.left trues lits.now }
     ensures known { IsLeftOf result lits.now }
 {
     let mut met: Option<Lit> = None;
@@ -131,7 +132,8 @@ fn left_of(last_true: &[u32], run_number: u32, lits: &[Lit]) -> Left
 fn left_of_two(last_true: &[u32], run_number: u32, x: Lit, y: Lit) -> Left
     requires x { neg x < length last_true.now }
     requires y { neg y < length last_true.now }
-    ensures left { (trues : List ℕ) → AreTrueIn last_true.now run_number trues → result ≡ logic.left trues (x ∷ y ∷ []) }
+    ensures left { (trues : List ℕ) → AreTrueIn last_true.now run_number trues
+        → result ≡ logic.left trues (x ∷ y ∷ []) }
     ensures known { IsLeftOf result (x ∷ y ∷ []) }
 {
     if is_true(last_true, run_number, x.neg()) {
@@ -152,8 +154,10 @@ fn left_of_two(last_true: &[u32], run_number: u32, x: Lit, y: Lit) -> Left
 /// What is left of the clause at a slot. A list of two is judged without a loop.
 fn left_at(last_true: &[u32], run_number: u32, store: &Store, slot: Slot) -> Left
     requires slot { IsSlot store.now slot }
-    requires within { (id l : ℕ) → slot_at store.now id ≡ Some slot → Contains (lits_at store.now id) l → neg l < length last_true.now }
-    ensures left { (id : ℕ) → slot_at store.now id ≡ Some slot → (trues : List ℕ) → AreTrueIn last_true.now run_number trues → result ≡ logic.left trues (lits_at store.now id) }
+    requires within { (id l : ℕ) → slot_at store.now id ≡ Some slot → Contains (lits_at store.now id) l
+        → neg l < length last_true.now }
+    ensures left { (id : ℕ) → slot_at store.now id ≡ Some slot → (trues : List ℕ)
+        → AreTrueIn last_true.now run_number trues → result ≡ logic.left trues (lits_at store.now id) }
     ensures known { (id : ℕ) → slot_at store.now id ≡ Some slot → IsLeftOf result (lits_at store.now id) }
 {
     let lits = store.lits(slot);
@@ -168,7 +172,8 @@ fn left_at(last_true: &[u32], run_number: u32, store: &Store, slot: Slot) -> Lef
 fn follow(last_true: &mut [u32], run_number: u32, store: &Store, hints: &[u64]) -> HintEnd
     requires within { AreWithin store.now (length last_true.old) }
     requires below { NoneLater last_true.old run_number }
-    ensures end { (trues : List ℕ) → AreTrueIn last_true.old run_number trues → result ≡ end_of (logic.hints_fail_from (active_at store.now) 1 trues hints.now) }
+    ensures end { (trues : List ℕ) → AreTrueIn last_true.old run_number trues
+        → result ≡ end_of (logic.hints_fail_from (active_at store.now) 1 trues hints.now) }
     ensures below { NoneLater last_true.new run_number }
 {
     for (i, id) in hints.iter().enumerate() {
@@ -247,7 +252,8 @@ impl HintCheck {
     /// the store and of the literals are reserved. It takes no memory.
     pub fn run(&mut self, store: &Store, start: &[Lit], hints: &[u64]) -> HintEnd
         requires start { (l : ℕ) → Contains start.now l → var l ≤ self.old }
-        requires store { (id l : ℕ) (h : Held) → finmap.get store.now id ≡ Some h → Contains h.literals l → var l ≤ self.old }
+        requires store { (id l : ℕ) (h : Held) → finmap.get store.now id ≡ Some h → Contains h.literals l
+            → var l ≤ self.old }
         ensures end { result ≡ end_of (logic.hints_fail (active_at store.now) start.now hints.now) }
         ensures reserved { self.new ≡ self.old }
     {

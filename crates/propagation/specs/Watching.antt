@@ -5,7 +5,7 @@ use Rattle.lits.specs.Literal.{neg}
 use Rattle.session_rules.specs.Logic.{has, is_falsified}
 use Rattle.clause_store.specs.Clauses.{Store, slot_at, lits_at}
 use Rattle.watch_lists.specs.Watch.{WatchView}
-use Rattle.watch_lists.specs.Watched.{Watched, entry_at}
+use Rattle.watch_lists.specs.Watched.{Watched, entry_at, watch_at}
 use Rattle.propagation.specs.declared.TrailEntry.{TrailEntry}
 use Rattle.propagation.specs.declared.Consequence.{Consequence}
 use Rattle.propagation.specs.declared.Consequence.TheVariants as follows
@@ -16,6 +16,13 @@ use Rattle.propagation.specs.Assigned.{Assigned}
 -- the clauses, the trail and the variables as callers see them
 abbrev pub engine_of : Store → List TrailEntry → ℕ → EngineView
 engine_of m ss n = record { clauses = clauses_of m; trail = ss; vars = n }
+
+abbrev pub engine_in : Watched → Assigned → EngineView
+engine_in w a = engine_of w.clauses a.entries a.vars
+
+-- the list of the clause at a slot
+abbrev pub AtSlot : Store → ℕ → (List ℕ → Type 0) → Type 0
+AtSlot m s P = (id : ℕ) → slot_at m id ≡ Some s → P (lits_at m id)
 
 -- ---- One clause
 
@@ -100,6 +107,11 @@ pub record IsRewatched (trues old new : List ℕ) (place : ℕ) : Type 0 where
 -- watches another in place of the false one
 abbrev pub IsPassed : List ℕ → List ℕ → List ℕ → List ℕ → ℕ → Type 0
 IsPassed before trues old new place = IsSatisfied trues new ⊎ IsRewatched before old new place
+
+-- the clause of an entry at a place of a literal's list needs no further look
+abbrev pub IsVisited : Assigned → Assigned → Watched → Watched → ℕ → ℕ → Type 0
+IsVisited before after old new w i = (id : ℕ) → slot_at old.clauses id ≡ Some (watch_at old w i).slot
+    → IsPassed (literals before.entries) (literals after.entries) (lits_at old.clauses id) (lits_at new.clauses id) (watch_at old w i).place
 
 -- ---- Steps of a propagation
 

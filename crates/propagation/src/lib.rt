@@ -34,7 +34,7 @@ ghost use Rattle.lits.specs.Literal.{max_var, neg};
 ghost use Rattle.session_rules.specs.Logic as logic;
 ghost use Rattle.std.specs.FinMap as finmap;
 ghost use Rattle.clause_store.specs.Clauses.{is_held, slot_at, lits_at, IsFresh, IsStore, new_clause};
-ghost use Rattle.propagation.specs.Watching.{engine_of, IsMoved, NeedsNoVisit};
+ghost use Rattle.propagation.specs.Watching.{engine_in, IsMoved, NeedsNoVisit};
 ghost use Rattle.propagation.specs.declared.TrailEntry.{TrailEntry};
 ghost use Rattle.propagation.specs.Clauses.{clauses_of, active, active_at, slot_of, literals_at, is_weakened};
 ghost use Rattle.watch_lists.specs.Watched.{AreReserved, IsWatched};
@@ -202,7 +202,8 @@ impl Engine {
         requires others { AreFalse self.old (drop 1 lits.now) }
         requires distinct { IsOnce lits.now }
         requires last { FellBefore self.old (drop 2 lits.now) (slice_index lits.now 1) }
-        ensures ok { IfOk result (λ s. self.new ≡ with_entry (with_added self.old id lits.now s) (slice_index lits.now 0) (Some s)) }
+        ensures ok { IfOk result (λ s.
+            self.new ≡ with_entry (with_added self.old id lits.now s) (slice_index lits.now 0) (Some s)) }
         ensures err { IfErr result (λ _. self.new ≡ self.old) }
         ensures fresh { IfOk result (IsFreshSlot self.old) }
         ensures free { IfOk result (λ _. has_clause self.old id ≡ false) }
@@ -316,8 +317,8 @@ impl Engine {
         ensures vars { self.new.vars ≡ self.old.vars }
         ensures literals { (literals self.new.trail ≡ literals self.old.trail) ⊎ (self.new.trail ≡ []) }
         ensures kept { IsNoReason self.old id → self.new ≡ self.old }
-        ensures stays { (x l : ℕ) → IsReasonOf self.old id l → IsUnitClause self.old x l → ¬ (IsUnitClause self.old id l)
-            → literals self.new.trail ≡ literals self.old.trail }
+        ensures stays { (x l : ℕ) → IsReasonOf self.old id l → IsUnitClause self.old x l
+            → ¬ (IsUnitClause self.old id l) → literals self.new.trail ≡ literals self.old.trail }
     {
         let Some(l) = self.forced_by(id) else {
             return;
@@ -468,11 +469,13 @@ impl Engine {
 
 /// Looks at the clause of an id. Whether it is active, nothing follows of it and it has two literals or more.
 fn needs_no_visit_at(watches: &mut Watches, trail: &Assignment, id: u64) -> bool
-    requires { IsEngine (engine_of watches.old.clauses trail.now.entries trail.now.vars) }
+    requires { IsEngine (engine_in watches.old trail.now) }
     ensures moved { IsMoved (literals trail.now.entries) watches.old.clauses watches.new.clauses }
     ensures wide { length watches.new.lists ≡ length watches.old.lists }
     ensures sound { IsWatched watches.new }
-    ensures needs_no_visit { IsTrue result → (q s : ℕ) → slot_at watches.new.clauses id ≡ Some s → slot_at watches.new.clauses q ≡ Some s → NeedsNoVisit (literals trail.now.entries) (lits_at watches.new.clauses q) }
+    ensures needs_no_visit { IsTrue result → (q s : ℕ) → slot_at watches.new.clauses id ≡ Some s
+        → slot_at watches.new.clauses q ≡ Some s
+        → NeedsNoVisit (literals trail.now.entries) (lits_at watches.new.clauses q) }
     ensures active { IsTrue result → IsTrue (is_some (slot_at watches.new.clauses id)) }
 {
     match watches.find(id) {
@@ -483,7 +486,8 @@ fn needs_no_visit_at(watches: &mut Watches, trail: &Assignment, id: u64) -> bool
 
 /// Takes out the ids that needn't be looked at where the trail is empty, if they have become many.
 fn compact(watches: &Watches, ids: &mut Vec<u64>, limit: &mut usize)
-    ensures kept { ArePending (clauses_of watches.now.clauses) ids.old.items → ArePending (clauses_of watches.now.clauses) ids.new.items }
+    ensures kept { ArePending (clauses_of watches.now.clauses) ids.old.items
+        → ArePending (clauses_of watches.now.clauses) ids.new.items }
     ensures sound { IsWatched watches.now }
 {
     recall_invariant(watches);
@@ -554,12 +558,12 @@ pub fn law_of_forced_literals()
 
 /// What an entry of the trail says of its literal: its place, its level and its reason.
 pub fn law_of_places()
-    ensures place { (e : EngineView) (before after : List TrailEntry) (s : TrailEntry) → IsEngine e → e.trail ≡ before ++ s ∷ after
-        → place_in (literals e.trail) s.lit ≡ Some (length before) }
-    ensures level { (e : EngineView) (before after : List TrailEntry) (s : TrailEntry) → IsEngine e → e.trail ≡ before ++ s ∷ after
-        → level_behind 0 e.trail s.lit ≡ Some (level_after (before ++ s ∷ [])) }
-    ensures reason { (e : EngineView) (before after : List TrailEntry) (s : TrailEntry) → IsEngine e → e.trail ≡ before ++ s ∷ after
-        → reason_in e.trail s.lit ≡ s.reason }
+    ensures place { (e : EngineView) (before after : List TrailEntry) (s : TrailEntry) → IsEngine e
+        → e.trail ≡ before ++ s ∷ after → place_in (literals e.trail) s.lit ≡ Some (length before) }
+    ensures level { (e : EngineView) (before after : List TrailEntry) (s : TrailEntry) → IsEngine e
+        → e.trail ≡ before ++ s ∷ after → level_behind 0 e.trail s.lit ≡ Some (level_after (before ++ s ∷ [])) }
+    ensures reason { (e : EngineView) (before after : List TrailEntry) (s : TrailEntry) → IsEngine e
+        → e.trail ≡ before ++ s ∷ after → reason_in e.trail s.lit ≡ s.reason }
     ensures negation { (e : EngineView) (l : ℕ) → IsEngine e → IsTrue (logic.has (literals e.trail) l)
         → logic.has (literals e.trail) (neg l) ≡ false }
 {}

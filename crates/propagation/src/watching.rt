@@ -12,7 +12,7 @@ ghost use Rattle.session_rules.specs.Logic.{has};
 ghost use Rattle.clause_store.specs.Clauses.{slot_at, lits_at, IsSlot};
 ghost use Rattle.watch_lists.specs.Watched.{IsWatched, list_at, entry_at, watch_at};
 ghost use Rattle.propagation.specs.Engine.{literals, IsEngine, IsFalseAt};
-ghost use Rattle.propagation.specs.Watching.{engine_of, IsNextFree, IsLastOpen, IsBrought, IsPair, IsMoved, IsConsequence, IsReady, IsDone, IsPassed, NeedsNoVisit, Advances};
+ghost use Rattle.propagation.specs.Watching.{engine_in, AtSlot, IsVisited, IsNextFree, IsLastOpen, IsBrought, IsPair, IsMoved, IsConsequence, IsReady, IsDone, IsPassed, NeedsNoVisit, Advances};
 
 use crate::Consequence;
 use crate::assignment::Assignment;
@@ -47,9 +47,10 @@ fn bring(watches: &mut Watches, slot: Slot, place: usize, k: usize)
     requires slot { IsSlot watches.old.clauses slot }
     requires first_two { place ≤ 1 }
     requires later { (k ≡ place) ⊎ (2 ≤ k) }
-    requires within { (id : ℕ) → slot_at watches.old.clauses id ≡ Some slot → k < length (lits_at watches.old.clauses id) }
+    requires within { AtSlot watches.old.clauses slot (λ ls. k < length ls) }
     requires sound { IsWatched watches.old }
-    ensures brought { (id : ℕ) → slot_at watches.old.clauses id ≡ Some slot → IsBrought id place k watches.old watches.new }
+    ensures brought { (id : ℕ) → slot_at watches.old.clauses id ≡ Some slot
+        → IsBrought id place k watches.old watches.new }
     ensures sound { IsWatched watches.new }
 {
     if k == place {
@@ -62,7 +63,7 @@ fn bring(watches: &mut Watches, slot: Slot, place: usize, k: usize)
 fn bring_both(watches: &mut Watches, slot: Slot, i: usize, j: usize)
     requires slot { IsSlot watches.old.clauses slot }
     requires order { i < j }
-    requires within { (id : ℕ) → slot_at watches.old.clauses id ≡ Some slot → j < length (lits_at watches.old.clauses id) }
+    requires within { AtSlot watches.old.clauses slot (λ ls. j < length ls) }
     requires sound { IsWatched watches.old }
     ensures pair { (id : ℕ) → slot_at watches.old.clauses id ≡ Some slot → IsPair id i j watches.old watches.new }
     ensures sound { IsWatched watches.new }
@@ -79,7 +80,7 @@ fn bring_both(watches: &mut Watches, slot: Slot, i: usize, j: usize)
 /// Quiet says that it has a true literal, or that the first two aren't false.
 fn find_two_watches(watches: &mut Watches, trail: &Assignment, slot: Slot) -> Consequence
     requires slot { IsSlot watches.old.clauses slot }
-    requires engine { IsEngine (engine_of watches.old.clauses trail.now.entries trail.now.vars) }
+    requires engine { IsEngine (engine_in watches.old trail.now) }
     ensures moved { IsMoved (literals trail.now.entries) watches.old.clauses watches.new.clauses }
     ensures wide { length watches.new.lists ≡ length watches.old.lists }
     ensures found { IsConsequence (literals trail.now.entries) watches.old watches.new slot result }
@@ -103,10 +104,11 @@ fn find_two_watches(watches: &mut Watches, trail: &Assignment, slot: Slot) -> Co
 /// Looks at a clause and puts the literal that follows of it on the trail. Whether the clause is false.
 fn visit(watches: &mut Watches, trail: &mut Assignment, slot: Slot) -> bool
     requires slot { IsSlot watches.old.clauses slot }
-    requires engine { IsEngine (engine_of watches.old.clauses trail.old.entries trail.old.vars) }
+    requires engine { IsEngine (engine_in watches.old trail.old) }
     ensures entries { Advances watches.old watches.new trail.old trail.new }
-    ensures yes { IsTrue result → IsFalseAt (engine_of watches.new.clauses trail.new.entries trail.new.vars) slot }
-    ensures no { result ≡ false → (id : ℕ) → slot_at watches.new.clauses id ≡ Some slot → IsDone (literals trail.old.entries) (literals trail.new.entries) (lits_at watches.new.clauses id) }
+    ensures yes { IsTrue result → IsFalseAt (engine_in watches.new trail.new) slot }
+    ensures no { result ≡ false
+        → AtSlot watches.new.clauses slot (IsDone (literals trail.old.entries) (literals trail.new.entries)) }
     ensures sound { IsWatched watches.new }
 {
     match find_two_watches(watches, trail, slot) {
@@ -142,16 +144,16 @@ fn last_open(trail: &Assignment, list: &[Watch], end: usize) -> Option<usize>
 fn watch_later(watches: &mut Watches, trail: &Assignment, w: Lit, i: usize, k: usize)
     requires within { i < length (list_at watches.old.lists w) }
     requires sound { IsWatched watches.old }
-    requires engine { IsEngine (engine_of watches.old.clauses trail.now.entries trail.now.vars) }
+    requires engine { IsEngine (engine_in watches.old trail.now) }
     requires later { 2 ≤ k }
-    requires in_bounds { (id : ℕ) → slot_at watches.old.clauses id ≡ Some (watch_at watches.old w i).slot → k < length (lits_at watches.old.clauses id) }
+    requires in_bounds { AtSlot watches.old.clauses (watch_at watches.old w i).slot (λ ls. k < length ls) }
     requires falsified { has (literals trail.now.entries) (neg w) ≡ true }
-    requires free { (id : ℕ) → slot_at watches.old.clauses id ≡ Some (watch_at watches.old w i).slot → has (literals trail.now.entries) (neg (slice_index (lits_at watches.old.clauses id) k)) ≡ false }
+    requires free { AtSlot watches.old.clauses (watch_at watches.old w i).slot
+        (λ ls. has (literals trail.now.entries) (neg (slice_index ls k)) ≡ false) }
     ensures moved { IsMoved (literals trail.now.entries) watches.old.clauses watches.new.clauses }
     ensures wide { length watches.new.lists ≡ length watches.old.lists }
     ensures front { take i (list_at watches.new.lists w) ≡ take i (list_at watches.old.lists w) }
-    ensures passed { (id : ℕ) → slot_at watches.old.clauses id ≡ Some (watch_at watches.old w i).slot
-        → IsPassed (literals trail.now.entries) (literals trail.now.entries) (lits_at watches.old.clauses id) (lits_at watches.new.clauses id) (watch_at watches.old w i).place }
+    ensures passed { IsVisited trail.now trail.now watches.old watches.new w i }
     ensures sound { IsWatched watches.new }
 {
     let slot = watches.list(w)[i].slot();
@@ -169,12 +171,11 @@ fn visit_entry(watches: &mut Watches, trail: &mut Assignment, w: Lit, i: usize) 
     requires within { i < length (list_at watches.old.lists w) }
     requires sound { IsWatched watches.old }
     requires falsified { has (literals trail.old.entries) (neg w) ≡ true }
-    requires engine { IsEngine (engine_of watches.old.clauses trail.old.entries trail.old.vars) }
+    requires engine { IsEngine (engine_in watches.old trail.old) }
     ensures entries { Advances watches.old watches.new trail.old trail.new }
     ensures front { take i (list_at watches.new.lists w) ≡ take i (list_at watches.old.lists w) }
-    ensures found { IfSome result (λ s. IsFalseAt (engine_of watches.new.clauses trail.new.entries trail.new.vars) s) }
-    ensures passed { IfNone result ((id : ℕ) → slot_at watches.old.clauses id ≡ Some (watch_at watches.old w i).slot
-        → IsPassed (literals trail.old.entries) (literals trail.new.entries) (lits_at watches.old.clauses id) (lits_at watches.new.clauses id) (watch_at watches.old w i).place) }
+    ensures found { IfSome result (λ s. IsFalseAt (engine_in watches.new trail.new) s) }
+    ensures passed { IfNone result (IsVisited trail.old trail.new watches.old watches.new w i) }
     ensures sound { IsWatched watches.new }
 {
     let watch = watches.list(w)[i];
@@ -198,10 +199,11 @@ fn visit_entry(watches: &mut Watches, trail: &mut Assignment, w: Lit, i: usize) 
 
 /// Looks at the clause of an id, if it is active. Some is its slot where it is false.
 fn visit_id(watches: &mut Watches, trail: &mut Assignment, id: u64) -> Option<Slot>
-    requires engine { IsEngine (engine_of watches.old.clauses trail.old.entries trail.old.vars) }
+    requires engine { IsEngine (engine_in watches.old trail.old) }
     ensures entries { Advances watches.old watches.new trail.old trail.new }
-    ensures found { IfSome result (λ s. IsFalseAt (engine_of watches.new.clauses trail.new.entries trail.new.vars) s) }
-    ensures done { IfNone result ((s : ℕ) → slot_at watches.new.clauses id ≡ Some s → IsDone (literals trail.old.entries) (literals trail.new.entries) (lits_at watches.new.clauses id)) }
+    ensures found { IfSome result (λ s. IsFalseAt (engine_in watches.new trail.new) s) }
+    ensures done { IfNone result ((s : ℕ) → slot_at watches.new.clauses id ≡ Some s
+        → IsDone (literals trail.old.entries) (literals trail.new.entries) (lits_at watches.new.clauses id)) }
 {
     match watches.find(id) {
         None => None,
@@ -223,11 +225,12 @@ pub(crate) fn look_at(
     from: &mut usize,
 ) -> Option<Slot>
     requires within { from.old ≤ length ids.now }
-    requires engine { IsEngine (engine_of watches.old.clauses trail.old.entries trail.old.vars) }
+    requires engine { IsEngine (engine_in watches.old trail.old) }
     ensures entries { Advances watches.old watches.new trail.old trail.new }
-    ensures ready { (h : ℕ) → h ≤ length trail.old.entries → IsReady watches.old.clauses (literals trail.old.entries) h (drop from.old ids.now)
+    ensures ready { (h : ℕ) → h ≤ length trail.old.entries
+        → IsReady watches.old.clauses (literals trail.old.entries) h (drop from.old ids.now)
         → IsReady watches.new.clauses (literals trail.new.entries) h (drop from.new ids.now) }
-    ensures found { IfSome result (λ s. IsFalseAt (engine_of watches.new.clauses trail.new.entries trail.new.vars) s) }
+    ensures found { IfSome result (λ s. IsFalseAt (engine_in watches.new trail.new) s) }
     ensures all { IfNone result (from.new ≡ length ids.now) }
     ensures within { from.new ≤ length ids.now }
 {
@@ -245,10 +248,10 @@ pub(crate) fn look_at(
 fn propagate_literal(watches: &mut Watches, trail: &mut Assignment, head: usize) -> Option<Slot>
     requires head { head < length trail.old.entries }
     requires wide { 2 * trail.old.vars ≤ length watches.old.lists }
-    requires engine { IsEngine (engine_of watches.old.clauses trail.old.entries trail.old.vars) }
+    requires engine { IsEngine (engine_in watches.old trail.old) }
     requires ready { IsReady watches.old.clauses (literals trail.old.entries) head [] }
     ensures entries { Advances watches.old watches.new trail.old trail.new }
-    ensures found { IfSome result (λ s. IsFalseAt (engine_of watches.new.clauses trail.new.entries trail.new.vars) s) }
+    ensures found { IfSome result (λ s. IsFalseAt (engine_in watches.new trail.new) s) }
     ensures ready { IfSome result (λ _. IsReady watches.new.clauses (literals trail.new.entries) head []) }
     ensures done { IfNone result (IsReady watches.new.clauses (literals trail.new.entries) (head + 1) []) }
 {
@@ -271,10 +274,10 @@ pub(crate) fn propagate_trail(
 ) -> Option<Slot>
     requires head { head.old ≤ length trail.old.entries }
     requires wide { 2 * trail.old.vars ≤ length watches.old.lists }
-    requires engine { IsEngine (engine_of watches.old.clauses trail.old.entries trail.old.vars) }
+    requires engine { IsEngine (engine_in watches.old trail.old) }
     requires ready { IsReady watches.old.clauses (literals trail.old.entries) head.old [] }
     ensures entries { Advances watches.old watches.new trail.old trail.new }
-    ensures found { IfSome result (λ s. IsFalseAt (engine_of watches.new.clauses trail.new.entries trail.new.vars) s) }
+    ensures found { IfSome result (λ s. IsFalseAt (engine_in watches.new trail.new) s) }
     ensures ready { IsReady watches.new.clauses (literals trail.new.entries) head.new [] }
     ensures head { head.new ≤ length trail.new.entries }
     ensures all { IfNone result (head.new ≡ length trail.new.entries) }
@@ -291,11 +294,12 @@ pub(crate) fn propagate_trail(
 /// Looks at a clause that has been added. Whether nothing follows of it and it has two literals or more.
 pub(crate) fn needs_no_visit(watches: &mut Watches, trail: &Assignment, slot: Slot) -> bool
     requires slot { IsSlot watches.old.clauses slot }
-    requires engine { IsEngine (engine_of watches.old.clauses trail.now.entries trail.now.vars) }
+    requires engine { IsEngine (engine_in watches.old trail.now) }
     ensures moved { IsMoved (literals trail.now.entries) watches.old.clauses watches.new.clauses }
     ensures wide { length watches.new.lists ≡ length watches.old.lists }
     ensures sound { IsWatched watches.new }
-    ensures needs_no_visit { IsTrue result → (id : ℕ) → slot_at watches.new.clauses id ≡ Some slot → NeedsNoVisit (literals trail.now.entries) (lits_at watches.new.clauses id) }
+    ensures needs_no_visit { IsTrue result
+        → AtSlot watches.new.clauses slot (NeedsNoVisit (literals trail.now.entries)) }
 {
     match find_two_watches(watches, trail, slot) {
         Consequence::Quiet => watches.lits(slot).len() >= 2,

@@ -44,8 +44,10 @@ fn assume_each(engine: &mut Engine, start: &[Lit]) -> bool
     requires { (l : ℕ) → Contains start.now l → var l ≤ engine.old.vars }
     ensures assumed { Assumes start.now engine.old engine.new }
     ensures engine { IsTrue result → IsEngine engine.new }
-    ensures opposite { IsTrue result → (l : ℕ) × Contains start.now l × IsTrue (logic.has (literals engine.new.trail) (neg l)) }
-    ensures each { result ≡ false → (l : ℕ) → Contains start.now l → IsTrue (logic.has (literals engine.new.trail) l) }
+    ensures opposite { IsTrue result
+        → (l : ℕ) × Contains start.now l × IsTrue (logic.has (literals engine.new.trail) (neg l)) }
+    ensures each { result ≡ false
+        → (l : ℕ) → Contains start.now l → IsTrue (logic.has (literals engine.new.trail) l) }
 {
     for l in start {
         match engine.value(*l) {

@@ -1,6 +1,6 @@
 // The closing examples, and hints that close.
 
-ghost use Rattle.std.specs.Prelude.{◌≡◌, ◌≤◌, [], IfOk};
+ghost use Rattle.std.specs.Prelude.{◌≡◌, ℕ, ◌≤◌, [], Contains, IfOk};
 ghost use Rattle.lits.specs.Literal.{var};
 
 use crate::{closes, closes_with};
@@ -56,7 +56,12 @@ fn close(engine: &mut Engine, a: i64, b: i64) -> bool
 }
 
 // Whether a literal closes, with hints. The trail is emptied before.
-fn close_with(alloc: Global, engine: &mut Engine, n: i64, hints: &mut Ids) -> Result<bool, AllocError>
+fn close_with(
+    alloc: Global,
+    engine: &mut Engine,
+    n: i64,
+    hints: &mut Ids,
+) -> Result<bool, AllocError>
     requires { engine.old.vars ≡ 9 }
     ensures { engine.new.vars ≡ 9 }
 {
@@ -133,6 +138,42 @@ fn hints_are_the_clauses_that_close(rt: HostRuntime) -> Result<(), Fail> {
     assert_eq!(rt; hints.len(), 2);
     assert!(rt; hints.as_slice().contains(&1));
     assert!(rt; hints.as_slice().contains(&2));
+    Ok(())
+}
+
+// The literal of a number of at most 1,001, or the default for any other number.
+fn wide(n: i64) -> Lit
+    ensures { var result ≤ 1001 }
+{
+    match Lit::new(n) {
+        Some(l) => if l.var() <= 1001 { l } else { Lit::default() },
+        None => Lit::default(),
+    }
+}
+
+// The literals 1 to 1,001, or their negations.
+fn thousand_and_one(alloc: Global, negated: bool) -> Result<Vec<Lit>, AllocError>
+    ensures { IfOk result (λ v. (l : ℕ) → Contains v.items l → var l ≤ 1001) }
+{
+    let mut lits = Vec::new(alloc);
+    for n in 1..1002i64 {
+        let l = wide(if negated { n.wrapping_neg() } else { n });
+        lits.push(l)?;
+    }
+    Ok(lits)
+}
+
+#[test]
+fn a_clause_of_a_thousand_and_one_literals_is_the_only_hint(rt: HostRuntime) -> Result<(), Fail> {
+    let mut engine = Engine::new(rt.alloc());
+    engine.reserve(1001)?;
+    let lits = thousand_and_one(rt.alloc(), false)?;
+    assert!(rt; engine.add(5, &lits).is_ok());
+    let start = thousand_and_one(rt.alloc(), true)?;
+    let mut hints = Ids::new(rt.alloc());
+    assert!(rt; closes_with(rt.alloc(), &mut engine, &start, &mut hints)?);
+    assert_eq!(rt; hints.as_slice(), [5].as_slice());
+    assert!(rt; !closes_with(rt.alloc(), &mut engine, &start[1..], &mut hints)?);
     Ok(())
 }
 
