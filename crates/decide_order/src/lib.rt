@@ -4,7 +4,7 @@
 //! N. Sörensson, 2003). The greatest score is at the top, and the least variable of these.
 #![tactic(auto)]
 
-ghost use Rattle.std.specs.Prelude.{◌≡◌, ◌+◌, ◌-◌, ◌^◌, ◌≤◌, min, IfSome, IfNone, OnOk, OnErr};
+ghost use Rattle.std.specs.Prelude.{◌≡◌, ◌+◌, ◌-◌, ◌^◌, ◌≤◌, min, IfSome, IfNone, OnOk, OnErr, IsOk};
 ghost use Rattle.std.specs.FinSet as set;
 ghost use Rattle.decide_order.specs.Ranked.{IsReserved, IsMember, IsBest, score, empty, with_reserved, with_score, with_member, without_member, halved};
 
@@ -55,11 +55,12 @@ impl Order {
 
     /// Reserves the variables up to this one. New ones have the score 0 and are no members.
     ///
-    /// `AllocError` means want of memory, and then nothing is changed.
+    /// `AllocError` means want of memory, and then nothing is changed. What is reserved already needs no memory.
     pub fn reserve(&mut self, vars: u32) -> Result<(), AllocError>
         requires { vars ≤ MAX_VAR }
         ensures ok { OnOk result (self.new ≡ with_reserved self.old vars) }
         ensures err { OnErr result (self.new ≡ self.old) }
+        ensures enough { vars ≤ self.old.reserved → IsOk result }
     {
         let before = self.scores.len();
         if vars as usize <= before {

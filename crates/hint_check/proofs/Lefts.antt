@@ -1,4 +1,4 @@
--- What is left of a clause as its literals are met one after another, and marks.
+-- What is left of a clause as its literals are met one after another, and which literals are true.
 use Rattle.std.proofs.Common.{◌≡◌, ◌≢◌, ℕ, suc, zero, ◌+◌, ◌*◌, ◌<◌, ◌≤◌, ◌⊎◌, List, [], ◌∷◌, ◌++◌, length, take, drop, filter, get_or, Option, Some, None, refl, sym, ap, ◌∙◌, subst, inl, inr, arith, true, false, Bool, not, nat_eq, ◌||◌, ◌&&◌, Contains, eqb-true, eq-eqb, cond}
 use Rattle.std.proofs.Math.ListN.{set}
 use Rattle.std.specs.Prelude.{option_map}
@@ -18,21 +18,21 @@ use Rattle.session_rules.specs.Logic.{left, left_of, is_tautology, hints_fail, h
 use Rattle.clause_store.specs.Clauses.{Store, Held, Place, slot_at, lits_at, IsStore}
 use Rattle.clause_store.proofs.Lists.{has-push}
 use Rattle.hint_check.specs.Hints.{active_at}
-use Rattle.hint_check.specs.Marks.{IsMarked, IsBelow}
+use Rattle.hint_check.specs.Runs.{AreTrueIn, NoneLater}
 
--- ---- Marks
+-- ---- The table
 
 cases : (q i : ℕ) → (q ≡ i) ⊎ (q ≢ i)
 cases q i = grind arith
 
-pub marked-put : (ms : List ℕ) (mark c : ℕ) (ts us : List ℕ) → c < length ms → IsMarked ms mark ts → ((q : ℕ) → has us q ≡ (has ts q || nat_eq q c)) → IsMarked (set ms c mark) mark us
-marked-put ms mark c ts us lt h more l inside = elim (cases l c) [
+pub true-put : (ms : List ℕ) (run_number c : ℕ) (ts us : List ℕ) → c < length ms → AreTrueIn ms run_number ts → ((q : ℕ) → has us q ≡ (has ts q || nat_eq q c)) → AreTrueIn (set ms c run_number) run_number us
+true-put ms run_number c ts us lt h more l inside = elim (cases l c) [
   | inl e ↦
-      let put : get_or (set ms c mark) c 0 ≡ mark = get_or-set_same ms c mark 0 lt in
-      subst (λ z. nat_eq (get_or (set ms c mark) z 0) mark ≡ has us z) (sym e) (eq-eqb _ _ put ∙ sym (more c ∙ or_true (has ts c) (nat_eq c c) (eq-eqb c c refl)))
+      let put : get_or (set ms c run_number) c 0 ≡ run_number = get_or-set_same ms c run_number 0 lt in
+      subst (λ z. nat_eq (get_or (set ms c run_number) z 0) run_number ≡ has us z) (sym e) (eq-eqb _ _ put ∙ sym (more c ∙ or_true (has ts c) (nat_eq c c) (eq-eqb c c refl)))
   | inr n ↦
-      let kept : get_or (set ms c mark) l 0 ≡ get_or ms l 0 = get_or-set_other ms c l mark 0 n in
-      ap (λ z. nat_eq z mark) kept ∙ h l (subst (λ z. l < z) (length-set ms c mark) inside) ∙ sym (more l ∙ or_false (has ts l) (nat_eq l c) (differs l c n))
+      let kept : get_or (set ms c run_number) l 0 ≡ get_or ms l 0 = get_or-set_other ms c l run_number 0 n in
+      ap (λ z. nat_eq z run_number) kept ∙ h l (subst (λ z. l < z) (length-set ms c run_number) inside) ∙ sym (more l ∙ or_false (has ts l) (nat_eq l c) (differs l c n))
 ]
   where
     or_true : (a b : Bool) → b ≡ true → (a || b) ≡ true
@@ -252,13 +252,13 @@ module _ (active : ℕ → Option (List ℕ)) (place : ℕ) (trues hs : List ℕ
   hint_left c z e f = hint_step active place trues hs i lt ∙ ap (λ o. after_hint place (option_map (left trues) o) (λ l. hints_fail_from active (place + 1) (l ∷ trues) (drop (suc i) hs))) e
       ∙ ap (λ y. after_hint place (Some y) (λ l. hints_fail_from active (place + 1) (l ∷ trues) (drop (suc i) hs))) (sym f)
 
-pub below-put : (ms : List ℕ) (mark c : ℕ) → IsBelow ms mark → IsBelow (set ms c mark) mark
-below-put ms mark c h k inside = elim (cases k c) [
+pub none_later-put : (ms : List ℕ) (run_number c : ℕ) → NoneLater ms run_number → NoneLater (set ms c run_number) run_number
+none_later-put ms run_number c h k inside = elim (cases k c) [
   | inl e ↦ elim (split c (length ms)) [
-    | inl lt ↦ let put : get_or (set ms c mark) c 0 ≡ mark = get_or-set_same ms c mark 0 lt in subst (λ z. get_or (set ms c mark) z 0 ≤ mark) (sym e) (omega (arith, put))
-    | inr ge ↦ absurd (omega (arith, e, length-set ms c mark, inside, ge))
+    | inl lt ↦ let put : get_or (set ms c run_number) c 0 ≡ run_number = get_or-set_same ms c run_number 0 lt in subst (λ z. get_or (set ms c run_number) z 0 ≤ run_number) (sym e) (omega (arith, put))
+    | inr ge ↦ absurd (omega (arith, e, length-set ms c run_number, inside, ge))
   ]
-  | inr n ↦ let kept : get_or (set ms c mark) k 0 ≡ get_or ms k 0 = get_or-set_other ms c k mark 0 n in omega (arith, kept, h k (subst (λ z. k < z) (length-set ms c mark) inside))
+  | inr n ↦ let kept : get_or (set ms c run_number) k 0 ≡ get_or ms k 0 = get_or-set_other ms c k run_number 0 n in omega (arith, kept, h k (subst (λ z. k < z) (length-set ms c run_number) inside))
 ]
   where
     split : (i n : ℕ) → (i < n) ⊎ (n ≤ i)

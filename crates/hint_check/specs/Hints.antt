@@ -26,7 +26,7 @@ abbrev pub met_seen : Option ℕ → Left
 met_seen None = lefts.Falsified
 met_seen (Some l) = lefts.UnitLiteral l
 
--- the literals of the store's clauses have marks
+-- the literals of the store's clauses have rows in the table
 abbrev pub AreWithin : Store → ℕ → Type 0
 AreWithin m n = (id l : ℕ) (h : Held) → finmap.get m id ≡ Some h → Contains h.literals l → (l < n) × (neg l < n)
 

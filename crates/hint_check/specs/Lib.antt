@@ -1,2 +1,2 @@
 pub mod Hints
-pub mod Marks
+pub mod Runs

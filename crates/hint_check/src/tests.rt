@@ -65,7 +65,7 @@ fn three_clauses(alloc: Global) -> Option<Store>
     None
 }
 
-// The end of a run over a table that has no mark.
+// The end of a run over a table that has no run_number.
 fn run(alloc: Global, store: &Store, start: &[Lit], hints: &[u64]) -> Result<HintEnd, AllocError>
     requires start { (l : ℕ) → Contains start.now l → var l ≤ 9 }
     requires room { (k l : ℕ) (h : Held) → finmap.get store.now k ≡ Some h → Contains h.literals l → var l ≤ 9 }

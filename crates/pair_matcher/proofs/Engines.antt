@@ -14,7 +14,7 @@ use Rattle.clause_store.specs.Clauses as store
 use Rattle.clause_store.specs.Clauses.{Held, Place, Store}
 use Rattle.propagation.specs.Clauses as seen
 use Rattle.propagation.specs.Clauses.{Clause, clause_of, clauses_of, active, active_at, slot_of}
-use Rattle.propagation.specs.Engine.{EngineView, with_clauses, active_clause, weakened_clause, IsRestored, Grows}
+use Rattle.propagation.specs.Engine.{EngineView, with_clauses, added_clause, weakened_clause, IsRestored, Grows}
 use Rattle.propagation.proofs.ClausesMap.{get-clauses_of, Contains-active, at_active}
 use Rattle.side_laws.specs.ClauseStates.{kept, kept_of_held, clauses_of_store, standing_of, ChangesAt}
 use Rattle.side_laws.specs.Sets.{HoldsSets, IsLeast, AreActive}
@@ -94,8 +94,8 @@ has_slot e id ls g = slot_by (get e.clauses id) ls (sym (get-kept_by kept_of_cla
 -- ---- What the engine's calls change
 
 module _ (e f : EngineView) (id : ℕ) where
-  pub engine_added : (c : List ℕ) (slot : ℕ) → f ≡ with_clauses e (finmap.insert e.clauses id (active_clause c slot)) → ChangesAt (clauses_of_engine e) (clauses_of_engine f) id (Some (kept true (set_of c)))
-  engine_added c slot is = changes-insert kept_of_clause e.clauses f.clauses id (active_clause c slot) (ap (λ z. z.clauses) is)
+  pub engine_added : (c : List ℕ) (slot : ℕ) → f ≡ with_clauses e (finmap.insert e.clauses id (added_clause c slot)) → ChangesAt (clauses_of_engine e) (clauses_of_engine f) id (Some (kept true (set_of c)))
+  engine_added c slot is = changes-insert kept_of_clause e.clauses f.clauses id (added_clause c slot) (ap (λ z. z.clauses) is)
 
   pub engine_deleted : f ≡ with_clauses e (finmap.remove e.clauses id) → ChangesAt (clauses_of_engine e) (clauses_of_engine f) id None
   engine_deleted is = changes-remove kept_of_clause e.clauses f.clauses id (ap (λ z. z.clauses) is)

@@ -170,7 +170,7 @@ fn judge_deletion(p: &mut Parts, lits: &[Lit]) -> Result<Option<Rule>, AllocErro
     let Some(id) = p.engine.store().least_active(&set) else {
         return Ok(Some(Rule::NotActive(1)));
     };
-    p.engine.release(id);
+    p.engine.replace_reason(id);
     match p.engine.delete(id) {
         Ok(()) => Ok(None),
         Err(_) => Err(AllocError),
@@ -188,7 +188,7 @@ fn judge_weakening(p: &mut Parts, lits: &[Lit]) -> Result<Option<Rule>, AllocErr
     let Some(id) = p.engine.store().least_active(&set) else {
         return Ok(Some(Rule::NotActive(1)));
     };
-    p.engine.release(id);
+    p.engine.replace_reason(id);
     match p.engine.weaken(id) {
         Ok(()) => Ok(None),
         Err(_) => Err(AllocError),

@@ -14,13 +14,13 @@ use Rattle.lits.specs.Clause.{set_of}
 use Rattle.session_rules.specs.Logic.{has, is_unit}
 use Rattle.lits.proofs.Members.{here, there, not_in_nil, here_or_there, all_from, has_at, has_from}
 use Rattle.clause_store.specs.Clauses.{Held, Store, slot_at, is_active, is_held, IsFresh, new_clause}
-use Rattle.propagation.specs.declared.Step.{Step}
+use Rattle.propagation.specs.declared.TrailEntry.{TrailEntry}
 use Rattle.std.proofs.Common.{◌&&◌, not}
 use Rattle.std.specs.Prelude.{is_none, unwrap_or}
 use Rattle.clause_store.specs.Clauses as held
 use Rattle.propagation.specs.Clauses as seen
 use Rattle.propagation.specs.Clauses.{Clause, Clauses, clause_of, clauses_of, slot_of, active_at}
-use Rattle.propagation.specs.Engine.{EngineView, IsEngine, IsStep, IsNoReason, IsFree, IsRestored, weakened_clause, literals, with_step, with_clauses, with_vars, no_engine, active_clause, level_after, is_assumed}
+use Rattle.propagation.specs.Engine.{EngineView, IsEngine, IsEntry, IsNoReason, IsFree, IsRestored, weakened_clause, literals, with_entry, with_clauses, with_vars, no_engine, added_clause, level_after, is_assumed}
 use Rattle.propagation.proofs.ClausesMap.{get-clauses_of, slot_of-clauses_of, same_items, unit_same}
 
 pub ties : (q : ℕ) → eq_by_cmp nat_cmp q q ≡ true
@@ -105,17 +105,17 @@ slot_of-remove_other m k q n = rw (get-remove nat_cmp_total, differs q k n) refl
 slot_of-remove_same : (m : Clauses) (k : ℕ) → slot_of (remove m k) k ≡ None
 slot_of-remove_same m k = rw (get-remove nat_cmp_total, ties k) refl
 
-active_at-insert_active : (m : Clauses) (k s : ℕ) (ls : List ℕ) → active_at (insert m k (active_clause ls s)) k ≡ Some (set_of ls)
+active_at-insert_active : (m : Clauses) (k s : ℕ) (ls : List ℕ) → active_at (insert m k (added_clause ls s)) k ≡ Some (set_of ls)
 active_at-insert_active m k s ls = rw (get-insert nat_cmp_total, ties k) refl
 
 -- one clause put, which is no reason
 pub IsEngine-put : (e : EngineView) (k : ℕ) (c : Clause) → IsEngine e → IsNoReason e k → ((s : ℕ) → c.slot ≡ Some s → (id : ℕ) → slot_of e.clauses id ≢ Some s) → ((l : ℕ) → Contains c.literals l → var l ≤ e.vars)
     → IsEngine (with_clauses e (insert e.clauses k c))
 IsEngine-put e k c h none fresh reserved = record {
-  steps = λ before after t at. let step = h.steps before after t at in record {
-    reserved = step.reserved;
-    free = step.free;
-    reason = λ r is. let y = step.reason r is in
+  entries = λ before after t at. let entry = h.entries before after t at in record {
+    reserved = entry.reserved;
+    free = entry.free;
+    reason = λ r is. let y = entry.reason r is in
         let ne : y.0 ≢ k = λ q. none t r (subst (λ z. Contains z t) (sym at) (in_middle before after t)) is (sym (ap (slot_of e.clauses) q) ∙ y.2) in
         (y.0, y.1, slot_of-insert_other e.clauses k y.0 _ ne ∙ y.2, active_at-insert_other e.clauses k y.0 _ ne ∙ y.3, y.4);
   };
@@ -144,16 +144,16 @@ pub no_reason-slotless : (e : EngineView) (k : ℕ) → slot_of e.clauses k ≡ 
 no_reason-slotless e k f s r m is at = none-some r (sym f ∙ at)
 
 pub IsEngine-insert : (e : EngineView) (k s : ℕ) (ls : List ℕ) → IsEngine e → get e.clauses k ≡ None → ((id : ℕ) → slot_of e.clauses id ≢ Some s) → ((l : ℕ) → Contains ls l → var l ≤ e.vars)
-    → IsEngine (with_clauses e (insert e.clauses k (active_clause ls s)))
-IsEngine-insert e k s ls h free fresh reserved = IsEngine-put e k (active_clause ls s) h (no_reason-slotless e k (let f : slot_of e.clauses k ≡ None = rw free refl in f))
+    → IsEngine (with_clauses e (insert e.clauses k (added_clause ls s)))
+IsEngine-insert e k s ls h free fresh reserved = IsEngine-put e k (added_clause ls s) h (no_reason-slotless e k (let f : slot_of e.clauses k ≡ None = rw free refl in f))
     (λ t is id at. fresh id (at ∙ sym is)) (λ l m. reserved l (has_at ls l (same_items ls (set_of ls) refl l ∙ has_from (set_of ls) l m)))
 
 pub IsEngine-remove : (e : EngineView) (k : ℕ) → IsEngine e → IsNoReason e k → IsEngine (with_clauses e (remove e.clauses k))
 IsEngine-remove e k h none = record {
-  steps = λ before after t at. let step = h.steps before after t at in record {
-    reserved = step.reserved;
-    free = step.free;
-    reason = λ r is. let y = step.reason r is in
+  entries = λ before after t at. let entry = h.entries before after t at in record {
+    reserved = entry.reserved;
+    free = entry.free;
+    reason = λ r is. let y = entry.reason r is in
         let ne : y.0 ≢ k = λ q. none t r (subst (λ z. Contains z t) (sym at) (in_middle before after t)) is (sym (ap (slot_of e.clauses) q) ∙ y.2) in
         (y.0, y.1, slot_of-remove_other e.clauses k y.0 ne ∙ y.2, active_at-remove_other e.clauses k y.0 ne ∙ y.3, y.4);
   };
@@ -173,19 +173,19 @@ IsEngine-remove e k h none = record {
 
 pub IsEngine-vars : (e : EngineView) (n : ℕ) → IsEngine e → e.vars ≤ n → n ≤ max_var → IsEngine (with_vars e n)
 IsEngine-vars e n h up limit = record {
-  steps = λ before after t at. let step = h.steps before after t at in record { reserved = omega (arith, step.reserved); free = step.free; reason = step.reason };
+  entries = λ before after t at. let entry = h.entries before after t at in record { reserved = omega (arith, entry.reserved); free = entry.free; reason = entry.reason };
   slots_apart = h.slots_apart;
   clauses_reserved = λ id l c at m. omega (arith, h.clauses_reserved id l c at m);
   vars_limit = limit;
 }
 
-no_step : (before after : List Step) (s : Step) → [] ≡ before ++ s ∷ after → ⊥
+no_step : (before after : List TrailEntry) (s : TrailEntry) → [] ≡ before ++ s ∷ after → ⊥
 no_step [] after s e = cc e
 no_step (b ∷ before) after s e = let f : [] ≡ b ∷ (before ++ s ∷ after) = e in cc f
 
 pub IsEngine-none : IsEngine no_engine
 IsEngine-none = record {
-  steps = λ before after s at. absurd (no_step before after s at);
+  entries = λ before after s at. absurd (no_step before after s at);
   slots_apart = λ a b s p q. absurd (none-some s (sym (let f : slot_of empty a ≡ None = rw (get-empty nat_cmp a) refl in f) ∙ p));
   clauses_reserved = λ id l c at m. absurd (none-some c (sym (get-empty nat_cmp id) ∙ at));
   vars_limit = omega arith;
@@ -193,19 +193,19 @@ IsEngine-none = record {
 
 -- ---- The engine's fields
 
-pub value_added : (m n : Store) (e : EngineView) (k : ℕ) (ls : List ℕ) (steps : List Step) (vars : ℕ) (r : Result ℕ StoreFault) → engine_of m steps vars ≡ e → IfOk r (λ s. n ≡ insert m k (new_clause ls s))
-    → IfOk r (λ s. engine_of n steps vars ≡ with_clauses e (insert e.clauses k (active_clause ls s)))
-value_added m n e k ls steps vars (Ok s) v ok =
-    let at : clauses_of n ≡ insert (clauses_of m) k (active_clause ls s) = ap clauses_of ok ∙ clauses_of-insert m k (new_clause ls s) in
-    (λ i. record { clauses = at i; trail = steps; vars = vars }) ∙ ap (λ z. with_clauses z (insert z.clauses k (active_clause ls s))) v
-value_added m n e k ls steps vars (Err f) v ok = ok
+pub value_added : (m n : Store) (e : EngineView) (k : ℕ) (ls : List ℕ) (entries : List TrailEntry) (vars : ℕ) (r : Result ℕ StoreFault) → engine_of m entries vars ≡ e → IfOk r (λ s. n ≡ insert m k (new_clause ls s))
+    → IfOk r (λ s. engine_of n entries vars ≡ with_clauses e (insert e.clauses k (added_clause ls s)))
+value_added m n e k ls entries vars (Ok s) v ok =
+    let at : clauses_of n ≡ insert (clauses_of m) k (added_clause ls s) = ap clauses_of ok ∙ clauses_of-insert m k (new_clause ls s) in
+    (λ i. record { clauses = at i; trail = entries; vars = vars }) ∙ ap (λ z. with_clauses z (insert z.clauses k (added_clause ls s))) v
+value_added m n e k ls entries vars (Err f) v ok = ok
 
-pub value_removed : (m n : Store) (e : EngineView) (k : ℕ) (steps : List Step) (vars : ℕ) (r : Result (Unit {0}) StoreFault) → engine_of m steps vars ≡ e → IfOk r (λ _. n ≡ remove m k)
-    → IfOk r (λ _. engine_of n steps vars ≡ with_clauses e (remove e.clauses k))
-value_removed m n e k steps vars (Ok u) v ok =
+pub value_removed : (m n : Store) (e : EngineView) (k : ℕ) (entries : List TrailEntry) (vars : ℕ) (r : Result (Unit {0}) StoreFault) → engine_of m entries vars ≡ e → IfOk r (λ _. n ≡ remove m k)
+    → IfOk r (λ _. engine_of n entries vars ≡ with_clauses e (remove e.clauses k))
+value_removed m n e k entries vars (Ok u) v ok =
     let at : clauses_of n ≡ remove (clauses_of m) k = ap clauses_of ok ∙ clauses_of-remove m k in
-    (λ i. record { clauses = at i; trail = steps; vars = vars }) ∙ ap (λ z. with_clauses z (remove z.clauses k)) v
-value_removed m n e k steps vars (Err f) v ok = ok
+    (λ i. record { clauses = at i; trail = entries; vars = vars }) ∙ ap (λ z. with_clauses z (remove z.clauses k)) v
+value_removed m n e k entries vars (Err f) v ok = ok
 
 -- the deletion that undoes an addition isn't refused
 pub taken_back : (m n back : Store) (k : ℕ) (h : Held) (s : ℕ) (r : Result (Unit {0}) StoreFault) → is_held m k ≡ false → n ≡ insert m k h → option_map (λ p. p.slot) h.place ≡ Some s
@@ -215,12 +215,12 @@ taken_back m n back k h s (Err f) free is at ok err =
     let a : is_active (insert m k h) k ≡ true = rw (get-insert nat_cmp_total, ties k, at) refl in
     absurd (both_ways _ (sym (ap (λ z. is_active z k) is) ∙ err) a)
 
-pub level_after-le : (ss : List Step) → level_after ss ≤ length ss
+pub level_after-le : (ss : List TrailEntry) → level_after ss ≤ length ss
 level_after-le [] = omega arith
 level_after-le (s ∷ ss) = let r = level_after-le ss in elim (cases_Bool (is_assumed s)) [ inl y ↦ rw y (omega arith) | inr n ↦ rw n (omega arith) ]
 
-pub value_new : (m : Store) (steps : List Step) → m ≡ empty → steps ≡ [] → engine_of m steps 0 ≡ no_engine
-value_new m steps e f = λ i. record { clauses = (ap clauses_of e ∙ clauses_of-empty) i; trail = f i; vars = 0 }
+pub value_new : (m : Store) (entries : List TrailEntry) → m ≡ empty → entries ≡ [] → engine_of m entries 0 ≡ no_engine
+value_new m entries e f = λ i. record { clauses = (ap clauses_of e ∙ clauses_of-empty) i; trail = f i; vars = 0 }
 
 -- ---- A clause whose first literal follows
 
@@ -236,11 +236,11 @@ first_in : (ls : List ℕ) → 0 < length ls → Contains ls (get_or ls 0 0)
 first_in [] lt = absurd (omega arith)
 first_in (x ∷ ls) lt = here x ls
 
-pub asserting_step : (e new : EngineView) (k s l : ℕ) (ls : List ℕ) → new ≡ with_clauses e (insert e.clauses k (active_clause ls s)) → l ≡ get_or ls 0 0 → 0 < length ls → ((x : ℕ) → Contains ls x → var x ≤ e.vars)
+pub asserting_entry : (e new : EngineView) (k s l : ℕ) (ls : List ℕ) → new ≡ with_clauses e (insert e.clauses k (added_clause ls s)) → l ≡ get_or ls 0 0 → 0 < length ls → ((x : ℕ) → Contains ls x → var x ≤ e.vars)
     → IsFree (literals e.trail) (get_or ls 0 0) → ((x : ℕ) → Contains (drop 1 ls) x → has (literals e.trail) (neg x) ≡ true)
-    → IsStep new.clauses new.vars new.trail (record { lit = l; reason = Some s })
-asserting_step e new k s l ls is first some reserved free others =
-    subst (λ z. IsStep z.clauses z.vars z.trail (record { lit = l; reason = Some s })) (sym is) (subst (λ z. IsStep (insert e.clauses k (active_clause ls s)) e.vars e.trail (record { lit = z; reason = Some s })) (sym first)
+    → IsEntry new.clauses new.vars new.trail (record { lit = l; reason = Some s })
+asserting_entry e new k s l ls is first some reserved free others =
+    subst (λ z. IsEntry z.clauses z.vars z.trail (record { lit = l; reason = Some s })) (sym is) (subst (λ z. IsEntry (insert e.clauses k (added_clause ls s)) e.vars e.trail (record { lit = z; reason = Some s })) (sym first)
     (record {
       reserved = reserved (get_or ls 0 0) (first_in ls some);
       free = free;
@@ -248,15 +248,15 @@ asserting_step e new k s l ls is first some reserved free others =
           let t : s ≡ r = same_Some _ _ same_slot in (
             k,
             set_of ls,
-            slot_of-insert_same e.clauses k (active_clause ls s) ∙ ap Some t,
+            slot_of-insert_same e.clauses k (added_clause ls s) ∙ ap Some t,
             active_at-insert_active e.clauses k s ls,
             unit_same (literals e.trail) ls (set_of ls) (get_or ls 0 0) (same_items ls (set_of ls) refl) (unit_of_first (literals e.trail) ls some others),
           );
     }))
 
-pub asserted : (e new last : EngineView) (k s l : ℕ) (ls : List ℕ) → new ≡ with_clauses e (insert e.clauses k (active_clause ls s)) → l ≡ get_or ls 0 0 → last ≡ with_step new l (Some s)
-    → last ≡ with_step (with_clauses e (insert e.clauses k (active_clause ls s))) (get_or ls 0 0) (Some s)
-asserted e new last k s l ls is first put = put ∙ ap (λ z. with_step new z (Some s)) first ∙ ap (λ z. with_step z (get_or ls 0 0) (Some s)) is
+pub asserted : (e new last : EngineView) (k s l : ℕ) (ls : List ℕ) → new ≡ with_clauses e (insert e.clauses k (added_clause ls s)) → l ≡ get_or ls 0 0 → last ≡ with_entry new l (Some s)
+    → last ≡ with_entry (with_clauses e (insert e.clauses k (added_clause ls s))) (get_or ls 0 0) (Some s)
+asserted e new last k s l ls is first put = put ∙ ap (λ z. with_entry new z (Some s)) first ∙ ap (λ z. with_entry z (get_or ls 0 0) (Some s)) is
 
 -- ---- Faults
 
@@ -267,28 +267,28 @@ held_seen m k = ap is_some (get-clauses_of m k) ∙ mapped (get m k)
     mapped None = refl
     mapped (Some h) = refl
 
-pub fault_taken : (m : Store) (e : EngineView) (steps : List Step) (vars k : ℕ) (r : Result ℕ StoreFault) (x : StoreFault) → engine_of m steps vars ≡ e → IfErr r (λ f. IsTrue (is_held m k) → f ≡ x)
+pub fault_taken : (m : Store) (e : EngineView) (entries : List TrailEntry) (vars k : ℕ) (r : Result ℕ StoreFault) (x : StoreFault) → engine_of m entries vars ≡ e → IfErr r (λ f. IsTrue (is_held m k) → f ≡ x)
     → IfErr r (λ f. IsTrue (contains_key e.clauses k) → f ≡ x)
-fault_taken m e steps vars k (Ok s) x v h = h
-fault_taken m e steps vars k (Err f) x v h = λ q. h (sym (held_seen m k) ∙ ap (λ z. contains_key z.clauses k) v ∙ q)
+fault_taken m e entries vars k (Ok s) x v h = h
+fault_taken m e entries vars k (Err f) x v h = λ q. h (sym (held_seen m k) ∙ ap (λ z. contains_key z.clauses k) v ∙ q)
 
-pub fault_memory : (m : Store) (e : EngineView) (steps : List Step) (vars k : ℕ) (r : Result ℕ StoreFault) (x : StoreFault) → engine_of m steps vars ≡ e → IfErr r (λ f. is_held m k ≡ false → f ≡ x)
+pub fault_memory : (m : Store) (e : EngineView) (entries : List TrailEntry) (vars k : ℕ) (r : Result ℕ StoreFault) (x : StoreFault) → engine_of m entries vars ≡ e → IfErr r (λ f. is_held m k ≡ false → f ≡ x)
     → IfErr r (λ f. contains_key e.clauses k ≡ false → f ≡ x)
-fault_memory m e steps vars k (Ok s) x v h = h
-fault_memory m e steps vars k (Err f) x v h = λ q. h (sym (held_seen m k) ∙ ap (λ z. contains_key z.clauses k) v ∙ q)
+fault_memory m e entries vars k (Ok s) x v h = h
+fault_memory m e entries vars k (Err f) x v h = λ q. h (sym (held_seen m k) ∙ ap (λ z. contains_key z.clauses k) v ∙ q)
 
-pub fault_inactive : (m : Store) (e : EngineView) (steps : List Step) (vars k : ℕ) (r : Result (Unit {0}) StoreFault) → engine_of m steps vars ≡ e → IfErr r (λ _. is_active m k ≡ false)
+pub fault_inactive : (m : Store) (e : EngineView) (entries : List TrailEntry) (vars k : ℕ) (r : Result (Unit {0}) StoreFault) → engine_of m entries vars ≡ e → IfErr r (λ _. is_active m k ≡ false)
     → IfErr r (λ _. is_some (slot_of e.clauses k) ≡ false)
-fault_inactive m e steps vars k (Ok u) v h = h
-fault_inactive m e steps vars k (Err f) v h = sym (ap (λ z. is_some (slot_of z.clauses k)) v) ∙ ap is_some (slot_of-clauses_of m k) ∙ h
+fault_inactive m e entries vars k (Ok u) v h = h
+fault_inactive m e entries vars k (Err f) v h = sym (ap (λ z. is_some (slot_of z.clauses k)) v) ∙ ap is_some (slot_of-clauses_of m k) ∙ h
 
 -- ---- What is seen of a clause
 
-pub active_seen : (m : Store) (e : EngineView) (steps : List Step) (vars k : ℕ) → engine_of m steps vars ≡ e → is_some (slot_of e.clauses k) ≡ is_active m k
-active_seen m e steps vars k v = sym (ap (λ z. is_some (slot_of z.clauses k)) v) ∙ ap is_some (slot_of-clauses_of m k)
+pub active_seen : (m : Store) (e : EngineView) (entries : List TrailEntry) (vars k : ℕ) → engine_of m entries vars ≡ e → is_some (slot_of e.clauses k) ≡ is_active m k
+active_seen m e entries vars k v = sym (ap (λ z. is_some (slot_of z.clauses k)) v) ∙ ap is_some (slot_of-clauses_of m k)
 
-pub weakened_seen : (m : Store) (e : EngineView) (steps : List Step) (vars k : ℕ) → engine_of m steps vars ≡ e → seen.is_weakened e.clauses k ≡ held.is_weakened m k
-weakened_seen m e steps vars k v =
+pub weakened_seen : (m : Store) (e : EngineView) (entries : List TrailEntry) (vars k : ℕ) → engine_of m entries vars ≡ e → seen.is_weakened e.clauses k ≡ held.is_weakened m k
+weakened_seen m e entries vars k v =
     sym (ap (λ z. seen.is_weakened z.clauses k) v) ∙ ap (λ b. b && is_none (slot_of (clauses_of m) k)) (held_seen m k) ∙ ap (λ o. is_held m k && is_none o) (slot_of-clauses_of m k) ∙ ap (λ b. is_held m k && b) (opposite (slot_at m k))
   where
     opposite : (o : Option ℕ) → is_none o ≡ not (is_some o)
@@ -318,12 +318,12 @@ pub ok_seen : {T : Type 0} (r : Result T StoreFault) (p q b : Bool) → q ≡ p 
 ok_seen (Ok u) p q b e h = e ∙ h
 ok_seen (Err f) p q b e h = h
 
-pub fresh_seen : (m : Store) (e : EngineView) (steps : List Step) (vars : ℕ) (r : Result ℕ StoreFault) → engine_of m steps vars ≡ e → IfOk r (λ s. IsFresh m s) → IfOk r (λ s. (x : ℕ) → slot_of e.clauses x ≢ Some s)
-fresh_seen m e steps vars (Ok s) v h = λ x at. h x (sym (slot_of-clauses_of m x) ∙ ap (λ z. slot_of z.clauses x) v ∙ at)
-fresh_seen m e steps vars (Err f) v h = h
+pub fresh_seen : (m : Store) (e : EngineView) (entries : List TrailEntry) (vars : ℕ) (r : Result ℕ StoreFault) → engine_of m entries vars ≡ e → IfOk r (λ s. IsFresh m s) → IfOk r (λ s. (x : ℕ) → slot_of e.clauses x ≢ Some s)
+fresh_seen m e entries vars (Ok s) v h = λ x at. h x (sym (slot_of-clauses_of m x) ∙ ap (λ z. slot_of z.clauses x) v ∙ at)
+fresh_seen m e entries vars (Err f) v h = h
 
-pub free_seen : (m : Store) (e : EngineView) (steps : List Step) (vars k : ℕ) → engine_of m steps vars ≡ e → contains_key e.clauses k ≡ is_held m k
-free_seen m e steps vars k v = sym (ap (λ z. contains_key z.clauses k) v) ∙ held_seen m k
+pub free_seen : (m : Store) (e : EngineView) (entries : List TrailEntry) (vars k : ℕ) → engine_of m entries vars ≡ e → contains_key e.clauses k ≡ is_held m k
+free_seen m e entries vars k v = sym (ap (λ z. contains_key z.clauses k) v) ∙ held_seen m k
 
 pub held_if_active : (m : Store) (k : ℕ) → is_active m k ≡ true → is_held m k ≡ true
 held_if_active m k a = by_value (get m k) refl
@@ -337,22 +337,22 @@ held_if_active m k a = by_value (get m k) refl
 pub clauses_of-weakened : (m n : Store) (k : ℕ) → n ≡ insert m k (held.weakened_clause (held.literals_at m k)) → clauses_of n ≡ insert (clauses_of m) k (weakened_clause (seen.literals_at (clauses_of m) k))
 clauses_of-weakened m n k e = ap clauses_of e ∙ clauses_of-insert m k (held.weakened_clause (held.literals_at m k)) ∙ ap (λ z. insert (clauses_of m) k (weakened_clause z)) (sym (literals_seen m k))
 
-pub value_weakened : (m n : Store) (e : EngineView) (k : ℕ) (steps : List Step) (vars : ℕ) (r : Result (Unit {0}) StoreFault) → engine_of m steps vars ≡ e → IfOk r (λ _. n ≡ insert m k (held.weakened_clause (held.literals_at m k)))
-    → IfOk r (λ _. engine_of n steps vars ≡ with_clauses e (insert e.clauses k (weakened_clause (seen.literals_at e.clauses k))))
-value_weakened m n e k steps vars (Ok u) v ok =
-    (λ i. record { clauses = clauses_of-weakened m n k ok i; trail = steps; vars = vars }) ∙ ap (λ z. with_clauses z (insert z.clauses k (weakened_clause (seen.literals_at z.clauses k)))) v
-value_weakened m n e k steps vars (Err f) v ok = ok
+pub value_weakened : (m n : Store) (e : EngineView) (k : ℕ) (entries : List TrailEntry) (vars : ℕ) (r : Result (Unit {0}) StoreFault) → engine_of m entries vars ≡ e → IfOk r (λ _. n ≡ insert m k (held.weakened_clause (held.literals_at m k)))
+    → IfOk r (λ _. engine_of n entries vars ≡ with_clauses e (insert e.clauses k (weakened_clause (seen.literals_at e.clauses k))))
+value_weakened m n e k entries vars (Ok u) v ok =
+    (λ i. record { clauses = clauses_of-weakened m n k ok i; trail = entries; vars = vars }) ∙ ap (λ z. with_clauses z (insert z.clauses k (weakened_clause (seen.literals_at z.clauses k)))) v
+value_weakened m n e k entries vars (Err f) v ok = ok
 
 -- ---- A clause restored
 
 pub clauses_of-restored : (m n : Store) (k : ℕ) (r : held.IsRestored m k n) → clauses_of n ≡ insert (clauses_of m) k (record { literals = seen.literals_at (clauses_of m) k; slot = Some r.slot })
 clauses_of-restored m n k r = ap clauses_of r.changed ∙ clauses_of-insert m k (held.active_clause (held.literals_at m k) r.lits r.slot) ∙ ap (λ z. insert (clauses_of m) k (record { literals = z; slot = Some r.slot })) (sym (literals_seen m k))
 
-pub value_back : (m n : Store) (e : EngineView) (k : ℕ) (steps : List Step) (vars : ℕ) → engine_of m steps vars ≡ e → held.IsRestored m k n → IsRestored e k (engine_of n steps vars)
-value_back m n e k steps vars v ok = subst (λ z. IsRestored z k (engine_of n steps vars)) v (record {
+pub value_back : (m n : Store) (e : EngineView) (k : ℕ) (entries : List TrailEntry) (vars : ℕ) → engine_of m entries vars ≡ e → held.IsRestored m k n → IsRestored e k (engine_of n entries vars)
+value_back m n e k entries vars v ok = subst (λ z. IsRestored z k (engine_of n entries vars)) v (record {
   slot = ok.slot;
   fresh = λ x at. ok.fresh x (sym (slot_of-clauses_of m x) ∙ at);
-  changed = λ i. record { clauses = clauses_of-restored m n k ok i; trail = steps; vars = vars };
+  changed = λ i. record { clauses = clauses_of-restored m n k ok i; trail = entries; vars = vars };
 })
 
 -- ---- A clause that has come
@@ -360,9 +360,9 @@ value_back m n e k steps vars v ok = subst (λ z. IsRestored z k (engine_of n st
 pub slot_inserted : (m n : Store) (k s : ℕ) (ls : List ℕ) → n ≡ insert m k (new_clause ls s) → slot_at n k ≡ Some s
 slot_inserted m n k s ls e = subst (λ z. slot_at z k ≡ Some s) (sym e) (rw (get-insert nat_cmp_total, ties k) refl)
 
-pub value_put : (m n : Store) (e : EngineView) (k : ℕ) (ls : List ℕ) (steps : List Step) (vars s : ℕ) → engine_of m steps vars ≡ e → n ≡ insert m k (new_clause ls s)
-    → engine_of n steps vars ≡ with_clauses e (insert e.clauses k (active_clause ls s))
-value_put m n e k ls steps vars s v ok = value_added m n e k ls steps vars (Ok s) v ok
+pub value_put : (m n : Store) (e : EngineView) (k : ℕ) (ls : List ℕ) (entries : List TrailEntry) (vars s : ℕ) → engine_of m entries vars ≡ e → n ≡ insert m k (new_clause ls s)
+    → engine_of n entries vars ≡ with_clauses e (insert e.clauses k (added_clause ls s))
+value_put m n e k ls entries vars s v ok = value_added m n e k ls entries vars (Ok s) v ok
 
-pub slot_of-seen : (m : Store) (e : EngineView) (steps : List Step) (vars k : ℕ) → engine_of m steps vars ≡ e → slot_at m k ≡ slot_of e.clauses k
-slot_of-seen m e steps vars k v = sym (slot_of-clauses_of m k) ∙ ap (λ z. slot_of z.clauses k) v
+pub slot_of-seen : (m : Store) (e : EngineView) (entries : List TrailEntry) (vars k : ℕ) → engine_of m entries vars ≡ e → slot_at m k ≡ slot_of e.clauses k
+slot_of-seen m e entries vars k v = sym (slot_of-clauses_of m k) ∙ ap (λ z. slot_of z.clauses k) v

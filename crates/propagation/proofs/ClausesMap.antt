@@ -139,3 +139,16 @@ Contains-active m id c e = active-to m (keys m) id c (sym (contains_key-keys m i
 pub at_active : (m : Clauses) (c : List ℕ) → Contains (active m) c → (id : ℕ) × (active_at m id ≡ Some c)
 unfolding active
 at_active m c h = active-from m (keys m) c h
+
+-- ---- What an engine's store holds
+
+module _ (m : Store) (cs : Clauses) (same : clauses_of m ≡ cs) where
+  pub stored_slot : (id : ℕ) → slot_at m id ≡ slot_of cs id
+  stored_slot id = sym (slot_of-clauses_of m id) ∙ ap (λ z. slot_of z id) same
+
+  pub stored_literals : IsStore m → (id : ℕ) (c : List ℕ) → active_at cs id ≡ Some c → (l : ℕ) → has (lits_at m id) l ≡ has c l
+  stored_literals k id c at l =
+      let seen : active_at (clauses_of m) id ≡ Some c = ap (λ z. active_at z id) same ∙ at in
+      let slot = slot_if_active (clauses_of m) id c seen in
+      let a = active-at_slot m id slot.0 k (sym (slot_of-clauses_of m id) ∙ slot.1) in
+      a.same l ∙ ap (λ z. has z l) (same_Some _ _ (sym a.here ∙ seen))

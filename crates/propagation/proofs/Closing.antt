@@ -9,12 +9,12 @@ use Rattle.session_rules.specs.Logic.{has, is_falsified, is_unit, is_tautology, 
 use Rattle.lits.proofs.Members.{all_at, all_from, any_at, any_from, has_at, has_from}
 use Rattle.session_rules.proofs.Closing.{Closes-cons}
 use Rattle.session_rules.proofs.Rounds.{tautology-within}
-use Rattle.propagation.specs.declared.Step.{Step}
+use Rattle.propagation.specs.declared.TrailEntry.{TrailEntry}
 use Rattle.propagation.specs.Clauses.{active}
 use Rattle.propagation.specs.Engine.{EngineView, IsEngine, IsFree, IsQuiet, IsPropagated, IsFalseAt, AssumesFrom, literals}
 use Rattle.propagation.specs.Assigned.{AreNew}
 use Rattle.propagation.proofs.ClausesMap.{Contains-active, at_active}
-use Rattle.propagation.proofs.Trail.{new_steps}
+use Rattle.propagation.proofs.Trail.{new_entries}
 
 -- each of these literals is among those
 abbrev pub Within : List ℕ → List ℕ → Type 0
@@ -33,7 +33,7 @@ unit-within trues all c l w h = let r = and_parts _ _ h in
 -- ---- Nothing follows: no closing sequence
 
 -- of a quiet clause, the literal of a unit is true
-quiet_unit : (all c : List ℕ) (l : ℕ) → IsQuiet all c → is_unit all c l ≡ true → has all l ≡ true
+pub quiet_unit : (all c : List ℕ) (l : ℕ) → IsQuiet all c → is_unit all c l ≡ true → has all l ≡ true
 quiet_unit all c l q u = elim (cases_Bool (has all l)) [
   | inl y ↦ y
   | inr n ↦ elim (cases_Bool (has all (neg l))) [
@@ -65,28 +65,28 @@ no_closing cs ls all q t w r = never_closed cs all q t r.0 ls w r.1 r.2
 
 -- ---- A trail has no opposite literals
 
-pub has-push : (ss : List Step) (s : Step) (q : ℕ) → has (literals (ss ++ s ∷ [])) q ≡ true → (has (literals ss) q ≡ true) ⊎ (q ≡ s.lit)
+pub has-push : (ss : List TrailEntry) (s : TrailEntry) (q : ℕ) → has (literals (ss ++ s ∷ [])) q ≡ true → (has (literals ss) q ≡ true) ⊎ (q ≡ s.lit)
 has-push [] s q h = elim (or_cases (nat_eq q s.lit) false h) [ inl y ↦ inr (eqb-true q s.lit y) | inr n ↦ cc n ]
 has-push (x ∷ ss) s q h = elim (or_cases (nat_eq q x.lit) (has (literals (ss ++ s ∷ [])) q) h) [
   | inl e ↦ inl (or_left (nat_eq q x.lit) (has (literals ss) q) e)
   | inr n ↦ elim (has-push ss s q n) [ inl f ↦ inl (or_right (nat_eq q x.lit) (has (literals ss) q) f) | inr f ↦ inr f ]
 ]
 
-pub has-push_old : (ss : List Step) (s : Step) (q : ℕ) → has (literals ss) q ≡ true → has (literals (ss ++ s ∷ [])) q ≡ true
+pub has-push_old : (ss : List TrailEntry) (s : TrailEntry) (q : ℕ) → has (literals ss) q ≡ true → has (literals (ss ++ s ∷ [])) q ≡ true
 has-push_old [] s q h = cc h
 has-push_old (x ∷ ss) s q h = elim (or_cases (nat_eq q x.lit) (has (literals ss) q) h) [
   | inl e ↦ or_left (nat_eq q x.lit) (has (literals (ss ++ s ∷ [])) q) e
   | inr n ↦ or_right (nat_eq q x.lit) (has (literals (ss ++ s ∷ [])) q) (has-push_old ss s q n)
 ]
 
-pub has-push_new : (ss : List Step) (s : Step) → has (literals (ss ++ s ∷ [])) s.lit ≡ true
+pub has-push_new : (ss : List TrailEntry) (s : TrailEntry) → has (literals (ss ++ s ∷ [])) s.lit ≡ true
 has-push_new [] s = or_left (nat_eq s.lit s.lit) false (eq-eqb s.lit s.lit refl)
 has-push_new (x ∷ ss) s = or_right (nat_eq s.lit x.lit) (has (literals (ss ++ s ∷ [])) s.lit) (has-push_new ss s)
 
-abbrev pub Consistent : List Step → Type 0
+abbrev pub Consistent : List TrailEntry → Type 0
 Consistent ss = (l : ℕ) → has (literals ss) l ≡ true → has (literals ss) (neg l) ≡ true → ⊥
 
-consistent-push : (ss : List Step) (s : Step) → Consistent ss → IsFree (literals ss) s.lit → Consistent (ss ++ s ∷ [])
+consistent-push : (ss : List TrailEntry) (s : TrailEntry) → Consistent ss → IsFree (literals ss) s.lit → Consistent (ss ++ s ∷ [])
 consistent-push ss s k free = λ l h n. elim (has-push ss s l h) [
   | inl a ↦ elim (has-push ss s (neg l) n) [
     | inl b ↦ k l a b
@@ -98,16 +98,16 @@ consistent-push ss s k free = λ l h n. elim (has-push ss s l h) [
   ]
 ]
 
-consistent : (n : ℕ) (ss before after : List Step) → AreNew n ss → ss ≡ before ++ after → Consistent before → Consistent ss
+consistent : (n : ℕ) (ss before after : List TrailEntry) → AreNew n ss → ss ≡ before ++ after → Consistent before → Consistent ss
 consistent n ss before [] k at h = subst Consistent (sym (at ∙ append-nil before)) h
 consistent n ss before (s ∷ after) k at h =
     consistent n ss (before ++ s ∷ []) after k (at ∙ sym (append_assoc before (s ∷ []) after)) (consistent-push before s h (k before after s at).free)
 
-pub new-consistent : (n : ℕ) (ss : List Step) → AreNew n ss → Consistent ss
+pub new-consistent : (n : ℕ) (ss : List TrailEntry) → AreNew n ss → Consistent ss
 new-consistent n ss k = consistent n ss [] ss k refl (λ l h n. cc h)
 
 pub consistent_trail : (e : EngineView) → IsEngine e → Consistent e.trail
-consistent_trail e k = new-consistent e.vars e.trail (new_steps e k)
+consistent_trail e k = new-consistent e.vars e.trail (new_entries e k)
 
 pub trail-consistent : (e : EngineView) → IsEngine e → is_tautology (literals e.trail) ≡ false
 trail-consistent e k = elim (cases_Bool (is_tautology (literals e.trail))) [
@@ -122,7 +122,7 @@ no_closing-propagated e ls k p w r = no_closing (active e.clauses) ls (literals 
 
 -- ---- The trail is a sequence of propagations
 
-along : (e : EngineView) (ls : List ℕ) → IsEngine e → AssumesFrom e.trail ls → (before after : List Step) → e.trail ≡ before ++ after → (trues : List ℕ)
+along : (e : EngineView) (ls : List ℕ) → IsEngine e → AssumesFrom e.trail ls → (before after : List TrailEntry) → e.trail ≡ before ++ after → (trues : List ℕ)
     → Within (literals before) trues → Within ls trues → ((all : List ℕ) → Within (literals e.trail) all → Within ls all → is_closed (active e.clauses) all ≡ true)
     → Closes (active e.clauses) trues
 along e ls k a before [] at trues w v final = ([], tt, final trues (λ q h. w q (subst (λ z. has (literals z) q ≡ true) (at ∙ append-nil before) h)) v)
@@ -135,7 +135,7 @@ along e ls k a before (s ∷ after) at trues w v final = by_reason s.reason refl
   where
     by_reason : (o : Option ℕ) → s.reason ≡ o → (s.reason ≡ None → Closes (active e.clauses) trues) → Closes (active e.clauses) (s.lit ∷ trues) → Closes (active e.clauses) trues
     by_reason None r assumed forced = assumed r
-    by_reason (Some t) r assumed forced = let y = (k.steps before after s at).reason t r in
+    by_reason (Some t) r assumed forced = let y = (k.entries before after s at).reason t r in
         Closes-cons (active e.clauses) trues y.1 s.lit (Contains-active e.clauses y.0 y.1 y.3) (unit-within (literals before) trues y.1 s.lit w y.4) forced
 
 closing_along : (e : EngineView) (ls : List ℕ) → IsEngine e → AssumesFrom e.trail ls → ((all : List ℕ) → Within (literals e.trail) all → Within ls all → is_closed (active e.clauses) all ≡ true) → Closes (active e.clauses) ls

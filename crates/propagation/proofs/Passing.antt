@@ -11,7 +11,7 @@ use Rattle.watch_lists.specs.Watch.{WatchView, no_watch}
 use Rattle.watch_lists.specs.Watched.{Watched, IsWatched, IsWatch, list_at, entry_at, watch_at, slots_in}
 use Rattle.watch_lists.proofs.Members.{has-here, has-there, has-place, member_cases}
 use Rattle.watch_lists.proofs.Placed.{lits-literals}
-use Rattle.propagation.specs.declared.Step.{Step}
+use Rattle.propagation.specs.declared.TrailEntry.{TrailEntry}
 use Rattle.propagation.specs.Clauses.{clauses_of, slot_of, active_at}
 use Rattle.propagation.specs.Engine.{IsEngine, IsReason}
 use Rattle.propagation.specs.Watching.{engine_of, HasTwo, IsCovered, IsBrought, IsMoved, IsRewatched}
@@ -60,14 +60,14 @@ pub entry_slot : (w : Watched) (l i : ℕ) → IsWatched w → i < length (list_
 entry_slot w l i k lt = k.slots l (watch_at w l i).slot (slot_listed (list_at w.lists l) i lt)
 
 -- the variables of a clause's literals are reserved
-pub lits_reserved : (m : Store) (ss : List Step) (n id s l : ℕ) → IsStore m → IsEngine (engine_of m ss n) → slot_at m id ≡ Some s → has (lits_at m id) l ≡ true → var l ≤ n
+pub lits_reserved : (m : Store) (ss : List TrailEntry) (n id s l : ℕ) → IsStore m → IsEngine (engine_of m ss n) → slot_at m id ≡ Some s → has (lits_at m id) l ≡ true → var l ≤ n
 lits_reserved m ss n id s l k e at h = literals-reserved (engine_of m ss n) id l e (has_at _ l (ap (λ z. has z l) (literals_seen m id) ∙ sym (lits-literals m id s l k at) ∙ h))
 
-pub each_reserved : (m : Store) (ss : List Step) (n id s : ℕ) (ls : List ℕ) → IsStore m → IsEngine (engine_of m ss n) → slot_at m id ≡ Some s → lits_at m id ≡ ls → (k : ℕ) → k < length ls → var (slice_index ls k) ≤ n
+pub each_reserved : (m : Store) (ss : List TrailEntry) (n id s : ℕ) (ls : List ℕ) → IsStore m → IsEngine (engine_of m ss n) → slot_at m id ≡ Some s → lits_at m id ≡ ls → (k : ℕ) → k < length ls → var (slice_index ls k) ≤ n
 each_reserved m ss n id s ls k e at same j lt = lits_reserved m ss n id s (slice_index ls j) k e at (ap (λ z. has z (slice_index ls j)) same ∙ has-place ls j lt)
 
 -- the variables of blockers are
-pub blocker_reserved : (w : Watched) (ss : List Step) (n l i : ℕ) → IsWatched w → IsEngine (engine_of w.clauses ss n) → i < length (list_at w.lists l) → var (watch_at w l i).blocker ≤ n
+pub blocker_reserved : (w : Watched) (ss : List TrailEntry) (n l i : ℕ) → IsWatched w → IsEngine (engine_of w.clauses ss n) → i < length (list_at w.lists l) → var (watch_at w l i).blocker ≤ n
 blocker_reserved w ss n l i k e lt =
     let s = entry_slot w l i k lt in
     lits_reserved w.clauses ss n s.0 (watch_at w l i).slot (watch_at w l i).blocker k.store e s.1 (k.entries s.0 l i lt s.1).blocker
@@ -116,7 +116,7 @@ module _ (w : Watched) (l i s : ℕ) (list : List WatchView) (e : WatchView) (ls
   pub looks_lits : (id : ℕ) → slot_at w.clauses id ≡ Some (watch_at w l i).slot → lits_at w.clauses id ≡ ls
   looks_lits id at = k.lits id (looks_slot id at)
 
-  pub looks_reserved : (ss : List Step) (n : ℕ) → IsEngine (engine_of w.clauses ss n) → (j : ℕ) → j < length ls → var (slice_index ls j) ≤ n
+  pub looks_reserved : (ss : List TrailEntry) (n : ℕ) → IsEngine (engine_of w.clauses ss n) → (j : ℕ) → j < length ls → var (slice_index ls j) ≤ n
   looks_reserved ss n x = each_reserved w.clauses ss n looked.0 s ls k.reads.sound.store x looked.1 (k.lits looked.0 looked.1)
 
   pub looks_watch : IsWatch ls l e

@@ -10,15 +10,15 @@ use Rattle.lits.proofs.Members.{has_at, all_at}
 use Rattle.session_rules.specs.Logic.{has, is_unit}
 use Rattle.clause_store.specs.Clauses.{Held, Place, Store, IsStore, IsActiveWith, slot_at, lits_at}
 use Rattle.watch_lists.specs.Watched.{Watched}
-use Rattle.propagation.specs.declared.Step.{Step}
+use Rattle.propagation.specs.declared.TrailEntry.{TrailEntry}
 use Rattle.propagation.specs.declared.Heads.{Heads}
-use Rattle.propagation.specs.Assigned.{Assigned, AreNew, with_steps, with_reason, rested}
+use Rattle.propagation.specs.Assigned.{Assigned, AreNew, with_entries, with_reason, rested}
 use Rattle.propagation.specs.Clauses.{clause_of, clauses_of, if_active, slot_of, active_at}
 use Rattle.propagation.specs.Engine.{EngineView, IsEngine, IsFree, IsReason, IsNoReason, IsSomeReason, IsReasonOf, IsOtherUnit, literals, level_after, reason_in, with_trail}
 use Rattle.propagation.specs.Watching.{engine_of}
-use Rattle.propagation.specs.Inside.{IsMark, IsInside}
+use Rattle.propagation.specs.Inside.{AreHeads, IsEngineInside}
 use Rattle.propagation.proofs.ClausesMap.{get-clauses_of, slot_of-clauses_of, active-at_slot}
-use Rattle.propagation.proofs.Trail.{new_steps}
+use Rattle.propagation.proofs.Trail.{new_entries}
 use Rattle.propagation.proofs.Covering.{has_more}
 use Rattle.propagation.proofs.Advancing.{literals-append}
 use Rattle.propagation.proofs.Closing.{consistent_trail}
@@ -27,17 +27,17 @@ use Rattle.propagation.proofs.Resting.{lit-rested, literals-rested, cut_map, cut
 
 -- ---- One clause is the reason of one literal
 
--- the step of a literal that has a reason
-reason_step : (e : EngineView) (l q : ℕ) → IsEngine e → reason_in e.trail l ≡ Some q → (before : List Step) × (t : Step) × (after : List Step) × (e.trail ≡ before ++ t ∷ after) × (t.lit ≡ l) × (t.reason ≡ Some q)
+-- the entry of a literal that has a reason
+reason_step : (e : EngineView) (l q : ℕ) → IsEngine e → reason_in e.trail l ≡ Some q → (before : List TrailEntry) × (t : TrailEntry) × (after : List TrailEntry) × (e.trail ≡ before ++ t ∷ after) × (t.lit ≡ l) × (t.reason ≡ Some q)
 reason_step e l q k at =
     let r = cut-literal e.trail l (true-reason e.trail l (ap is_some at)) in
-    (r.0, r.1, r.2, r.3, r.4, sym (reason_at e.vars r.0 r.2 r.1 (subst (AreNew e.vars) r.3 (new_steps e k))) ∙ (λ i. reason_in (sym r.3 i) (r.4 i)) ∙ at)
+    (r.0, r.1, r.2, r.3, r.4, sym (reason_at e.vars r.0 r.2 r.1 (subst (AreNew e.vars) r.3 (new_entries e k))) ∙ (λ i. reason_in (sym r.3 i) (r.4 i)) ∙ at)
 
-one_literal : (e : EngineView) (before after : List Step) (t : Step) (l q : ℕ) → IsEngine e → e.trail ≡ before ++ t ∷ after → t.reason ≡ Some q → reason_in e.trail l ≡ Some q → t.lit ≡ l
+one_literal : (e : EngineView) (before after : List TrailEntry) (t : TrailEntry) (l q : ℕ) → IsEngine e → e.trail ≡ before ++ t ∷ after → t.reason ≡ Some q → reason_in e.trail l ≡ Some q → t.lit ≡ l
 one_literal e before after t l q k cut is at =
-    let y = (k.steps before after t cut).reason q is in
+    let y = (k.entries before after t cut).reason q is in
     let r = reason_step e l q k at in
-    let z = (k.steps r.0 r.2 r.1 r.3).reason q r.5 in
+    let z = (k.entries r.0 r.2 r.1 r.3).reason q r.5 in
     let same : z.0 ≡ y.0 = k.slots_apart z.0 y.0 q z.2 y.2 in
     let set : z.1 ≡ y.1 = same_Some _ _ (sym z.3 ∙ ap (active_at e.clauses) same ∙ y.3) in
     let member : has y.1 l ≡ true = (λ i. has (sym set i) (sym r.4 i)) ∙ (and_parts _ _ z.4).0 in
@@ -56,26 +56,26 @@ same_literal e id l m k a b =
 alone_is_unit : (trues : List ℕ) (l : ℕ) → is_unit trues (l ∷ []) l ≡ true
 alone_is_unit trues l = rw (eq-eqb l l refl) refl
 
--- what a step of the new trail was
-source : (ss : List Step) (l s : ℕ) (t : Step) → Contains (with_reason ss l s) t → (before : List Step) × (u : Step) × (after : List Step) × (ss ≡ before ++ u ∷ after) × (t ≡ rested l s u)
+-- what an entry of the new trail was
+source : (ss : List TrailEntry) (l s : ℕ) (t : TrailEntry) → Contains (with_reason ss l s) t → (before : List TrailEntry) × (u : TrailEntry) × (after : List TrailEntry) × (ss ≡ before ++ u ∷ after) × (t ≡ rested l s u)
 source ss l s t m = let c = cut_at (with_reason ss l s) t m in let r = cut_map (rested l s) ss c.0 t c.1 c.2 in (r.0, r.1, r.2, r.3, r.5)
 
-same_step : (l s : ℕ) (u : Step) → nat_eq u.lit l ≡ false → rested l s u ≡ u
+same_step : (l s : ℕ) (u : TrailEntry) → nat_eq u.lit l ≡ false → rested l s u ≡ u
 same_step l s u o = rw o refl
 
-new_reason : (l s : ℕ) (u : Step) → nat_eq u.lit l ≡ true → (rested l s u).reason ≡ Some s
+new_reason : (l s : ℕ) (u : TrailEntry) → nat_eq u.lit l ≡ true → (rested l s u).reason ≡ Some s
 new_reason l s u y = rw y refl
 
 pub engine_rested : (e : EngineView) (id l s : ℕ) → IsEngine e → IsOtherUnit e id l s → IsEngine (with_trail e (with_reason e.trail l s))
 engine_rested e id l s k unit = record {
-  steps = λ before after t at.
+  entries = λ before after t at.
       let r = cut_map (rested l s) e.trail before t after at in
-      let step = k.steps r.0 r.2 r.1 r.3 in
+      let entry = k.entries r.0 r.2 r.1 r.3 in
       let lit : t.lit ≡ r.1.lit = ap (λ z. z.lit) r.5 ∙ lit-rested l s r.1 in
       let front : literals before ≡ literals r.0 = ap literals r.4 ∙ literals-rested r.0 l s in
       record {
-        reserved = subst (λ z. var z ≤ e.vars) (sym lit) step.reserved;
-        free = subst (λ z. IsFree z t.lit) (sym front) (subst (IsFree (literals r.0)) (sym lit) step.free);
+        reserved = subst (λ z. var z ≤ e.vars) (sym lit) entry.reserved;
+        free = subst (λ z. IsFree z t.lit) (sym front) (subst (IsFree (literals r.0)) (sym lit) entry.free);
         reason = λ q is. elim (cases_Bool (nat_eq r.1.lit l)) [
           | inl y ↦
               let here : s ≡ q = same_Some _ _ (sym (new_reason l s r.1 y) ∙ ap (λ z. z.reason) (sym r.5) ∙ is) in
@@ -83,7 +83,7 @@ engine_rested e id l s k unit = record {
               subst (λ z. IsReason e.clauses (literals before) z q) (sym (lit ∙ eqb-true r.1.lit l y)) (subst (IsReason e.clauses (literals before) l) here all)
           | inr o ↦
               let same : t ≡ r.1 = r.5 ∙ same_step l s r.1 o in
-              subst (λ z. IsReason e.clauses z t.lit q) (sym front) (subst (λ z. IsReason e.clauses (literals r.0) z q) (sym lit) (step.reason q (ap (λ z. z.reason) (sym same) ∙ is)))
+              subst (λ z. IsReason e.clauses z t.lit q) (sym front) (subst (λ z. IsReason e.clauses (literals r.0) z q) (sym lit) (entry.reason q (ap (λ z. z.reason) (sym same) ∙ is)))
         ];
       };
   slots_apart = k.slots_apart;
@@ -104,20 +104,20 @@ none_rested e id l s k was unit t q m is at =
           eqb-false r.1.lit l o (one_literal e r.0 r.2 r.1 l q k r.3 why (was.2 ∙ sym was.1 ∙ at))
     ]
 
-pub inside_rested : (w : Watched) (a b : Assigned) (head : ℕ) (ids : List ℕ) (short_head : ℕ) (levels : List Heads) (room id l s : ℕ) → IsInside w a head ids short_head levels room → level_after a.steps ≡ 0
-    → IsReasonOf (engine_of w.clauses a.steps a.vars) id l → IsOtherUnit (engine_of w.clauses a.steps a.vars) id l s → b ≡ with_steps a (with_reason a.steps l s) → IsInside w b head ids short_head levels room
-inside_rested w a b head ids short_head levels room id l s h level was unit is =
-    let e : EngineView = engine_of w.clauses a.steps a.vars in
-    let all : IsInside w (with_steps a (with_reason a.steps l s)) head ids short_head levels room = record {
+pub inside_rested : (w : Watched) (a b : Assigned) (head : ℕ) (ids : List ℕ) (pending_head : ℕ) (levels : List Heads) (room id l s : ℕ) → IsEngineInside w a head ids pending_head levels room → level_after a.entries ≡ 0
+    → IsReasonOf (engine_of w.clauses a.entries a.vars) id l → IsOtherUnit (engine_of w.clauses a.entries a.vars) id l s → b ≡ with_entries a (with_reason a.entries l s) → IsEngineInside w b head ids pending_head levels room
+inside_rested w a b head ids pending_head levels room id l s h level was unit is =
+    let e : EngineView = engine_of w.clauses a.entries a.vars in
+    let all : IsEngineInside w (with_entries a (with_reason a.entries l s)) head ids pending_head levels room = record {
       sound = engine_rested e id l s h.sound unit;
       wide = h.wide;
-      shorts = h.shorts;
-      now = subst (λ z. IsMark w.clauses z head ids short_head) (sym (literals-rested a.steps l s)) h.now;
-      counted = h.counted ∙ sym (level_after-rested a.vars a.steps l s (new_steps e h.sound) (ap is_some was.2));
+      pending = h.pending;
+      now = subst (λ z. AreHeads w.clauses z head ids pending_head) (sym (literals-rested a.entries l s)) h.now;
+      counted = h.counted ∙ sym (level_after-rested a.vars a.entries l s (new_entries e h.sound) (ap is_some was.2));
       before = λ j d lt at. absurd (let g = h.counted in omega (arith, g, level, lt));
       levels_fit = h.levels_fit;
     } in
-    subst (λ z. IsInside w z head ids short_head levels room) (sym is) all
+    subst (λ z. IsEngineInside w z head ids pending_head levels room) (sym is) all
 
 -- ---- Clauses that are found by their sets
 
@@ -160,7 +160,7 @@ pub reason_here : (e : EngineView) (id s l : ℕ) → slot_of e.clauses id ≡ S
 reason_here e id s l slot at = (s, slot, at)
 
 -- a clause that is a literal's reason has the literal
-pub no_reason-listed : (m : Store) (ss : List Step) (vars id s : ℕ) (ls : List ℕ) → IsStore m → IsEngine (engine_of m ss vars) → slot_at m id ≡ Some s → lits_at m id ≡ ls
+pub no_reason-listed : (m : Store) (ss : List TrailEntry) (vars id s : ℕ) (ls : List ℕ) → IsStore m → IsEngine (engine_of m ss vars) → slot_at m id ≡ Some s → lits_at m id ≡ ls
     → ((l : ℕ) → Contains ls l → reason_in ss l ≡ Some s → ⊥) → IsNoReason (engine_of m ss vars) id
 no_reason-listed m ss vars id s ls stored k found list none t r mem is at =
     let e : EngineView = engine_of m ss vars in
@@ -171,7 +171,7 @@ no_reason-listed m ss vars id s ls stored k found list none t r mem is at =
     let member : has (lits_at m id) t.lit ≡ true = a.same t.lit ∙ ap (λ z. has z t.lit) set ∙ forced.2 in
     none t.lit (has_at ls t.lit (ap (λ z. has z t.lit) (sym list) ∙ member)) (forced.3 ∙ ap Some slot)
 
-pub no_reason-inactive : (m : Store) (ss : List Step) (vars id : ℕ) → slot_at m id ≡ None → IsNoReason (engine_of m ss vars) id
+pub no_reason-inactive : (m : Store) (ss : List TrailEntry) (vars id : ℕ) → slot_at m id ≡ None → IsNoReason (engine_of m ss vars) id
 no_reason-inactive m ss vars id gone t r mem is at = none-some r (sym gone ∙ sym (slot_of-clauses_of m id) ∙ at)
 
 pub some_reason : (e : EngineView) (id l : ℕ) → IsReasonOf e id l → IsSomeReason e id
@@ -182,7 +182,7 @@ unfolding set_of with_literal
 one_set l = refl
 
 -- another clause of the literal alone
-pub unit_found : (m : Store) (ss : List Step) (vars id x l : ℕ) (set : List ℕ) → set ≡ l ∷ [] → IsActiveWith m set x → x ≢ id → (o : Option ℕ) → o ≡ slot_at m x → IfSome o (λ s. IsOtherUnit (engine_of m ss vars) id l s)
+pub unit_found : (m : Store) (ss : List TrailEntry) (vars id x l : ℕ) (set : List ℕ) → set ≡ l ∷ [] → IsActiveWith m set x → x ≢ id → (o : Option ℕ) → o ≡ slot_at m x → IfSome o (λ s. IsOtherUnit (engine_of m ss vars) id l s)
 unit_found m ss vars id x l set is found other None slot = tt
 unit_found m ss vars id x l set is found other (Some s) slot = (x, other, slot_of-clauses_of m x ∙ sym slot, active_found m x set found ∙ ap Some is)
 

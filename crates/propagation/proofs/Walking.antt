@@ -12,7 +12,7 @@ use Rattle.watch_lists.specs.Watch.{WatchView}
 use Rattle.watch_lists.specs.Watched.{Watched, IsWatched, is_watch, list_at, watch_at, watchers, slots_in}
 use Rattle.watch_lists.proofs.Members.{member_cases, unlike}
 use Rattle.watch_lists.proofs.FirstTwo.{first_watch, second_watch, firsts-apart, once-lits}
-use Rattle.propagation.specs.declared.Step.{Step}
+use Rattle.propagation.specs.declared.TrailEntry.{TrailEntry}
 use Rattle.propagation.specs.Assigned.{Assigned}
 use Rattle.propagation.specs.Engine.{EngineView, literals, IsEngine}
 use Rattle.propagation.specs.Watching.{engine_of, IsSatisfied, HasTwo, IsCovered, IsReady, IsRewatched, IsPassed, Advances}
@@ -98,19 +98,19 @@ module _ (before trues old new : List ℕ) (head l p : ℕ) (k : Passes before t
 
 -- clauses that aren't in the list's beginning are covered at the next place too
 pub record IsWalking (w0 w : Watched) (a0 a : Assigned) (head l end : ℕ) : Type 0 where
-  pub steps : Advances w0 w a0 a
-  pub ready : IsReady w.clauses (literals a.steps) head []
+  pub entries : Advances w0 w a0 a
+  pub ready : IsReady w.clauses (literals a.entries) head []
   pub sound : IsWatched w
-  pub inside : head < length a.steps
-  pub falsified : has (literals a.steps) (neg l) ≡ true
-  pub is : neg (get_or (literals a.steps) head 0) ≡ l
+  pub inside : head < length a.entries
+  pub falsified : has (literals a.entries) (neg l) ≡ true
+  pub is : neg (get_or (literals a.entries) head 0) ≡ l
   pub within : end ≤ length (list_at w.lists l)
-  pub passed : (id t : ℕ) → slot_at w.clauses id ≡ Some t → (has (slots_in (take end (list_at w.lists l))) t ≡ true) ⊎ IsCovered (literals a.steps) (head + 1) (lits_at w.clauses id)
+  pub passed : (id t : ℕ) → slot_at w.clauses id ≡ Some t → (has (slots_in (take end (list_at w.lists l))) t ≡ true) ⊎ IsCovered (literals a.entries) (head + 1) (lits_at w.clauses id)
 
-pub walk_begins : (w : Watched) (a : Assigned) (head l end : ℕ) → IsEngine (engine_of w.clauses a.steps a.vars) → IsReady w.clauses (literals a.steps) head [] → IsWatched w → head < length a.steps → has (literals a.steps) (neg l) ≡ true
-    → neg (get_or (literals a.steps) head 0) ≡ l → end ≡ length (list_at w.lists l) → IsWalking w w a a head l end
+pub walk_begins : (w : Watched) (a : Assigned) (head l end : ℕ) → IsEngine (engine_of w.clauses a.entries a.vars) → IsReady w.clauses (literals a.entries) head [] → IsWatched w → head < length a.entries → has (literals a.entries) (neg l) ≡ true
+    → neg (get_or (literals a.entries) head 0) ≡ l → end ≡ length (list_at w.lists l) → IsWalking w w a a head l end
 walk_begins w a head l end k r sound lt f is e = record {
-  steps = advances_settled w w a k (moved_none (literals a.steps) w.clauses) refl;
+  entries = advances_settled w w a k (moved_none (literals a.entries) w.clauses) refl;
   ready = r;
   sound = sound;
   inside = lt;
@@ -121,18 +121,18 @@ walk_begins w a head l end k r sound lt f is e = record {
     | inl y ↦ inl (subst (λ z. has (slots_in z) t ≡ true) (sym (ap (λ z. take z (list_at w.lists l)) e ∙ take-length (list_at w.lists l))) y)
     | inr n ↦ elim (r id t at) [
       | inl none ↦ absurd (let g : false ≡ true = none in cc g)
-      | inr c ↦ inr (unwatched (literals a.steps) (lits_at w.clauses id) head l is (sym (sound.watches id t l at) ∙ n) c)
+      | inr c ↦ inr (unwatched (literals a.entries) (lits_at w.clauses id) head l is (sym (sound.watches id t l at) ∙ n) c)
     ]
   ];
 }
 
 -- entries whose blockers are true are passed over
 module _ (w0 w : Watched) (a0 a : Assigned) (head l end : ℕ) (v : IsWalking w0 w a0 a head l end) where
-  pub blocked_true : (id t k : ℕ) → slot_at w.clauses id ≡ Some t → k < length (list_at w.lists l) → (watch_at w l k).slot ≡ t → has (literals a.steps) (watch_at w l k).blocker ≡ true → IsSatisfied (literals a.steps) (lits_at w.clauses id)
+  pub blocked_true : (id t k : ℕ) → slot_at w.clauses id ≡ Some t → k < length (list_at w.lists l) → (watch_at w l k).slot ≡ t → has (literals a.entries) (watch_at w l k).blocker ≡ true → IsSatisfied (literals a.entries) (lits_at w.clauses id)
   blocked_true id t k at lt same y = ((watch_at w l k).blocker, (v.sound.entries id l k lt (at ∙ ap Some (sym same))).blocker, y)
 
   -- the end
-  pub walk_ends : ((k : ℕ) → k < end → has (literals a.steps) (watch_at w l k).blocker ≡ true) → IsReady w.clauses (literals a.steps) (head + 1) []
+  pub walk_ends : ((k : ℕ) → k < end → has (literals a.entries) (watch_at w l k).blocker ≡ true) → IsReady w.clauses (literals a.entries) (head + 1) []
   walk_ends all id t at = elim (v.passed id t at) [
     | inl y ↦ let p = slot_place end (list_at w.lists l) t y in inr (inl (blocked_true id t p.at at p.within p.slot (all p.at p.before)))
     | inr c ↦ inr c
@@ -146,55 +146,55 @@ at_front (x ∷ xs) ys (suc i) h = at_front xs ys i (omega arith)
 fewer : (i : ℕ) (xs ys : List WatchView) → take i xs ≡ take i ys → i ≤ length ys → i ≤ length xs
 fewer i xs ys e le = let f = ap length e in let g = length-take-le i ys le in let h = length-take i xs in omega (arith, f, g, h)
 
--- one visit of a walk
+-- one visit of the walk
 pub record Visits (w0 w w' : Watched) (a0 a a' : Assigned) (head l end i : ℕ) : Type 0 where
   pub walking : IsWalking w0 w a0 a head l end
   pub before : i < end
-  pub open_after : (k : ℕ) → i < k → k < end → has (literals a.steps) (watch_at w l k).blocker ≡ true
-  pub steps : Advances w w' a a'
+  pub open_after : (k : ℕ) → i < k → k < end → has (literals a.entries) (watch_at w l k).blocker ≡ true
+  pub entries : Advances w w' a a'
   pub sound : IsWatched w'
   pub front : take i (list_at w'.lists l) ≡ take i (list_at w.lists l)
 
 module _ (w0 w w' : Watched) (a0 a a' : Assigned) (head l end i : ℕ) (v : Visits w0 w w' a0 a a' head l end i) where
   pub visits_steps : Advances w0 w' a0 a'
-  visits_steps = advances_then w0 w w' a0 a a' v.walking.steps v.steps
+  visits_steps = advances_then w0 w w' a0 a a' v.walking.entries v.entries
 
-  pub visits_ready : IsReady w'.clauses (literals a'.steps) head []
-  visits_ready = ready_still w w' a a' v.steps head [] (let lt = v.walking.inside in omega (arith, lt)) v.walking.ready
+  pub visits_ready : IsReady w'.clauses (literals a'.entries) head []
+  visits_ready = ready_still w w' a a' v.entries head [] (let lt = v.walking.inside in omega (arith, lt)) v.walking.ready
 
-  longer_trail : literals a'.steps ≡ literals a.steps ++ literals v.steps.more
-  longer_trail = longer w w' a a' v.steps
+  longer_trail : literals a'.entries ≡ literals a.entries ++ literals v.entries.more
+  longer_trail = longer w w' a a' v.entries
 
-  within_trail : head + 1 ≤ length (literals a.steps)
-  within_trail = let lt = v.walking.inside in let e = length-literals a.steps in omega (arith, lt, e)
+  within_trail : head + 1 ≤ length (literals a.entries)
+  within_trail = let lt = v.walking.inside in let e = length-literals a.entries in omega (arith, lt, e)
 
-  still_false : has (literals a'.steps) (neg l) ≡ true
-  still_false = subst (λ z. has z (neg l) ≡ true) (sym longer_trail) (has_more (literals a.steps) (literals v.steps.more) (neg l) v.walking.falsified)
+  still_false : has (literals a'.entries) (neg l) ≡ true
+  still_false = subst (λ z. has z (neg l) ≡ true) (sym longer_trail) (has_more (literals a.entries) (literals v.entries.more) (neg l) v.walking.falsified)
 
-  same_next : neg (get_or (literals a'.steps) head 0) ≡ l
-  same_next = ap (λ z. neg (get_or z head 0)) longer_trail ∙ ap neg (at_front (literals a.steps) (literals v.steps.more) head (let le = within_trail in omega (arith, le))) ∙ v.walking.is
+  same_next : neg (get_or (literals a'.entries) head 0) ≡ l
+  same_next = ap (λ z. neg (get_or z head 0)) longer_trail ∙ ap neg (at_front (literals a.entries) (literals v.entries.more) head (let le = within_trail in omega (arith, le))) ∙ v.walking.is
 
-  same_take : (h : ℕ) → h ≤ length (literals a.steps) → take h (literals a'.steps) ≡ take h (literals a.steps)
-  same_take h le = ap (take h) longer_trail ∙ take-append-le h (literals a.steps) (literals v.steps.more) le
+  same_take : (h : ℕ) → h ≤ length (literals a.entries) → take h (literals a'.entries) ≡ take h (literals a.entries)
+  same_take h le = ap (take h) longer_trail ∙ take-append-le h (literals a.entries) (literals v.entries.more) le
 
-  covered_still : (id : ℕ) → IsCovered (literals a.steps) (head + 1) (lits_at w.clauses id) → IsCovered (literals a'.steps) (head + 1) (lits_at w'.clauses id)
+  covered_still : (id : ℕ) → IsCovered (literals a.entries) (head + 1) (lits_at w.clauses id) → IsCovered (literals a'.entries) (head + 1) (lits_at w'.clauses id)
   covered_still id c = subst (λ z. IsCovered z (head + 1) (lits_at w'.clauses id)) (sym longer_trail)
-      (covered_more (literals a.steps) (literals v.steps.more) (lits_at w'.clauses id) (head + 1) within_trail (v.steps.moved.kept id (head + 1) (literals a.steps) (λ x m. m) c))
+      (covered_more (literals a.entries) (literals v.entries.more) (lits_at w'.clauses id) (head + 1) within_trail (v.entries.moved.kept id (head + 1) (literals a.entries) (λ x m. m) c))
 
   index_in : i < length (list_at w.lists l)
   index_in = let lt = v.before in let le = v.walking.within in omega (arith, lt, le)
 
   -- the clause that was visited
-  visited : (id : ℕ) → slot_at w.clauses id ≡ Some (watch_at w l i).slot → IsPassed (literals a.steps) (literals a'.steps) (lits_at w.clauses id) (lits_at w'.clauses id) (watch_at w l i).place → IsCovered (literals a'.steps) (head + 1) (lits_at w'.clauses id)
+  visited : (id : ℕ) → slot_at w.clauses id ≡ Some (watch_at w l i).slot → IsPassed (literals a.entries) (literals a'.entries) (lits_at w.clauses id) (lits_at w'.clauses id) (watch_at w l i).place → IsCovered (literals a'.entries) (head + 1) (lits_at w'.clauses id)
   visited id at (inl s) = inl s
   visited id at (inr r) = elim (v.walking.ready id (watch_at w l i).slot at) [
     | inl none ↦ absurd (let g : false ≡ true = none in cc g)
     | inr c ↦ elim c [
-      | inl s ↦ inl (satisfied_still w w' a a' v.steps id s)
+      | inl s ↦ inl (satisfied_still w w' a a' v.entries id s)
       | inr t ↦
           let e = v.walking.sound.entries id l i index_in at in
-          inr (rewatched_two (literals a.steps) (literals a'.steps) (lits_at w.clauses id) (lits_at w'.clauses id) head l (watch_at w l i).place (record {
-            more = λ x m. has_take (head + 1) x (literals a.steps) (subst (λ z. has z x ≡ true) (same_take (head + 1) within_trail) m);
+          inr (rewatched_two (literals a.entries) (literals a'.entries) (lits_at w.clauses id) (lits_at w'.clauses id) head l (watch_at w l i).place (record {
+            more = λ x m. has_take (head + 1) x (literals a.entries) (subst (λ z. has z x ≡ true) (same_take (head + 1) within_trail) m);
             first = λ x m. subst (λ z. has z x ≡ true) (same_take head (let le = within_trail in omega (arith, le))) m;
             is = same_next;
             once = once-lits w.clauses id (watch_at w l i).slot v.walking.sound.store at;
@@ -206,31 +206,31 @@ module _ (w0 w w' : Watched) (a0 a a' : Assigned) (head l end i : ℕ) (v : Visi
   ]
 
   -- the clause of an entry before the end
-  placed : ((id : ℕ) → slot_at w.clauses id ≡ Some (watch_at w l i).slot → IsPassed (literals a.steps) (literals a'.steps) (lits_at w.clauses id) (lits_at w'.clauses id) (watch_at w l i).place)
-      → (id t : ℕ) → slot_at w.clauses id ≡ Some t → StandsAt (list_at w.lists l) end t → (has (slots_in (take i (list_at w'.lists l))) t ≡ true) ⊎ IsCovered (literals a'.steps) (head + 1) (lits_at w'.clauses id)
+  placed : ((id : ℕ) → slot_at w.clauses id ≡ Some (watch_at w l i).slot → IsPassed (literals a.entries) (literals a'.entries) (lits_at w.clauses id) (lits_at w'.clauses id) (watch_at w l i).place)
+      → (id t : ℕ) → slot_at w.clauses id ≡ Some t → StandsAt (list_at w.lists l) end t → (has (slots_in (take i (list_at w'.lists l))) t ≡ true) ⊎ IsCovered (literals a'.entries) (head + 1) (lits_at w'.clauses id)
   placed d id t at p = elim (cases p.at i) [
     | inl y ↦
         let here : slot_at w.clauses id ≡ Some (watch_at w l i).slot = at ∙ ap Some (sym p.slot) ∙ ap (λ z. Some (watch_at w l z).slot) y in
         inr (visited id here (d id here))
     | inr n ↦ elim (order p.at n) [
       | inl lt ↦ inl (subst (λ z. has (slots_in z) t ≡ true) (sym v.front) (subst (λ z. has (slots_in (take i (list_at w.lists l))) z ≡ true) p.slot (slot_early i (list_at w.lists l) p.at lt p.within)))
-      | inr gt ↦ inr (inl (satisfied_still w w' a a' v.steps id (blocked_true w0 w a0 a head l end v.walking id t p.at at p.within p.slot (v.open_after p.at gt p.before))))
+      | inr gt ↦ inr (inl (satisfied_still w w' a a' v.entries id (blocked_true w0 w a0 a head l end v.walking id t p.at at p.within p.slot (v.open_after p.at gt p.before))))
     ]
   ]
     where
       order : (k : ℕ) → (k ≡ i → ⊥) → (k < i) ⊎ (i < k)
       order k n = grind arith
 
-  pub visits_next : ((id : ℕ) → slot_at w.clauses id ≡ Some (watch_at w l i).slot → IsPassed (literals a.steps) (literals a'.steps) (lits_at w.clauses id) (lits_at w'.clauses id) (watch_at w l i).place) → IsWalking w0 w' a0 a' head l i
+  pub visits_next : ((id : ℕ) → slot_at w.clauses id ≡ Some (watch_at w l i).slot → IsPassed (literals a.entries) (literals a'.entries) (lits_at w.clauses id) (lits_at w'.clauses id) (watch_at w l i).place) → IsWalking w0 w' a0 a' head l i
   visits_next d = record {
-    steps = visits_steps;
+    entries = visits_steps;
     ready = visits_ready;
     sound = v.sound;
-    inside = let lt = v.walking.inside in let e = length_longer w w' a a' v.steps in omega (arith, lt, e);
+    inside = let lt = v.walking.inside in let e = length_longer w w' a a' v.entries in omega (arith, lt, e);
     falsified = still_false;
     is = same_next;
     within = fewer i (list_at w'.lists l) (list_at w.lists l) v.front (let lt = index_in in omega (arith, lt));
-    passed = λ id t at. let was : slot_at w.clauses id ≡ Some t = sym (v.steps.moved.slots id) ∙ at in
+    passed = λ id t at. let was : slot_at w.clauses id ≡ Some t = sym (v.entries.moved.slots id) ∙ at in
         elim (v.walking.passed id t was) [
           | inl y ↦ placed d id t was (slot_place end (list_at w.lists l) t y)
           | inr c ↦ inr (covered_still id c)
@@ -239,10 +239,10 @@ module _ (w0 w w' : Watched) (a0 a a' : Assigned) (head l end i : ℕ) (v : Visi
 
 -- ---- The literal that is propagated
 
-reserved_in : (e : EngineView) (l : ℕ) → IsEngine e → (before after : List Step) → e.trail ≡ before ++ after → has (literals after) l ≡ true → var l ≤ e.vars
+reserved_in : (e : EngineView) (l : ℕ) → IsEngine e → (before after : List TrailEntry) → e.trail ≡ before ++ after → has (literals after) l ≡ true → var l ≤ e.vars
 reserved_in e l k before [] at m = absurd (let g : false ≡ true = m in cc g)
 reserved_in e l k before (s ∷ after) at m = elim (member_cases s.lit l (literals after) m) [
-  | inl y ↦ subst (λ z. var z ≤ e.vars) (sym y) (k.steps before after s at).reserved
+  | inl y ↦ subst (λ z. var z ≤ e.vars) (sym y) (k.entries before after s at).reserved
   | inr n ↦ reserved_in e l k (before ++ s ∷ []) after (at ∙ sym (append_assoc before (s ∷ []) after)) n
 ]
 
@@ -250,12 +250,12 @@ pub trail_reserved : (e : EngineView) (l : ℕ) → IsEngine e → has (literals
 trail_reserved e l k m = reserved_in e l k [] e.trail refl m
 
 -- a true literal's place
-pub record IsAt (ss : List Step) (ls : List ℕ) (head l : ℕ) : Type 0 where
+pub record IsAt (ss : List TrailEntry) (ls : List ℕ) (head l : ℕ) : Type 0 where
   pub list : ls ≡ literals ss
   pub within : head < length ss
   pub is : l ≡ get_or ls head l
 
-module _ (ss : List Step) (ls : List ℕ) (head l w : ℕ) (at : IsAt ss ls head l) (is : w ≡ neg l) where
+module _ (ss : List TrailEntry) (ls : List ℕ) (head l w : ℕ) (at : IsAt ss ls head l) (is : w ≡ neg l) where
   pub at_place : get_or (literals ss) head 0 ≡ l
   at_place = get_or_default (literals ss) head 0 l (let e = length-literals ss in let lt = at.within in omega (arith, e, lt)) ∙ ap (λ z. get_or z head l) (sym at.list) ∙ sym at.is
 

@@ -5,17 +5,24 @@ use Rattle.lits.specs.Literal.{neg}
 use Rattle.session_rules.specs.Logic.{has, is_falsified}
 use Rattle.clause_store.specs.Clauses.{Store, slot_at, lits_at}
 use Rattle.watch_lists.specs.Watch.{WatchView}
-use Rattle.watch_lists.specs.Watched.{Watched, entry_at}
-use Rattle.propagation.specs.declared.Step.{Step}
-use Rattle.propagation.specs.declared.Pending.{Pending}
-use Rattle.propagation.specs.declared.Pending.TheVariants as pending
+use Rattle.watch_lists.specs.Watched.{Watched, entry_at, watch_at}
+use Rattle.propagation.specs.declared.TrailEntry.{TrailEntry}
+use Rattle.propagation.specs.declared.Consequence.{Consequence}
+use Rattle.propagation.specs.declared.Consequence.TheVariants as follows
 use Rattle.propagation.specs.Clauses.{clauses_of, slot_of, active_at}
 use Rattle.propagation.specs.Engine.{EngineView, literals, level_after, IsFree, IsReason, IsEngine}
 use Rattle.propagation.specs.Assigned.{Assigned}
 
 -- the clauses, the trail and the variables as callers see them
-abbrev pub engine_of : Store → List Step → ℕ → EngineView
+abbrev pub engine_of : Store → List TrailEntry → ℕ → EngineView
 engine_of m ss n = record { clauses = clauses_of m; trail = ss; vars = n }
+
+abbrev pub engine_in : Watched → Assigned → EngineView
+engine_in w a = engine_of w.clauses a.entries a.vars
+
+-- the list of the clause at a slot
+abbrev pub AtSlot : Store → ℕ → (List ℕ → Type 0) → Type 0
+AtSlot m s P = (id : ℕ) → slot_at m id ≡ Some s → P (lits_at m id)
 
 -- ---- One clause
 
@@ -78,10 +85,10 @@ pub record IsPair (id i j : ℕ) (old new : Watched) : Type 0 where
   pub first_two : AreFirst (lits_at new.clauses id) (slice_index (lits_at old.clauses id) i) (slice_index (lits_at old.clauses id) j) ⊎ AreFirst (lits_at new.clauses id) (slice_index (lits_at old.clauses id) j) (slice_index (lits_at old.clauses id) i)
 
 -- what looking at a clause told
-abbrev pub IsSettled : List ℕ → Watched → Watched → ℕ → Pending → Type 0
-IsSettled trues old new s (pending.False) = (new ≡ old) × ((id : ℕ) × (c : List ℕ) × (slot_of (clauses_of old.clauses) id ≡ Some s) × (active_at (clauses_of old.clauses) id ≡ Some c) × IsTrue (is_falsified trues c))
-IsSettled trues old new s (pending.Unit l) = (new ≡ old) × IsReason (clauses_of old.clauses) trues l s × IsFree trues l × ((id : ℕ) → slot_at old.clauses id ≡ Some s → has (lits_at old.clauses id) l ≡ true)
-IsSettled trues old new s (pending.Quiet) = (id : ℕ) → slot_at new.clauses id ≡ Some s → IsSatisfied trues (lits_at new.clauses id) ⊎ HasTwo trues (lits_at new.clauses id)
+abbrev pub IsConsequence : List ℕ → Watched → Watched → ℕ → Consequence → Type 0
+IsConsequence trues old new s (follows.False) = (new ≡ old) × ((id : ℕ) × (c : List ℕ) × (slot_of (clauses_of old.clauses) id ≡ Some s) × (active_at (clauses_of old.clauses) id ≡ Some c) × IsTrue (is_falsified trues c))
+IsConsequence trues old new s (follows.Unit l) = (new ≡ old) × IsReason (clauses_of old.clauses) trues l s × IsFree trues l × ((id : ℕ) → slot_at old.clauses id ≡ Some s → has (lits_at old.clauses id) l ≡ true)
+IsConsequence trues old new s (follows.Quiet) = (id : ℕ) → slot_at new.clauses id ≡ Some s → IsSatisfied trues (lits_at new.clauses id) ⊎ HasTwo trues (lits_at new.clauses id)
 
 -- ---- The entries of a list
 
@@ -101,6 +108,11 @@ pub record IsRewatched (trues old new : List ℕ) (place : ℕ) : Type 0 where
 abbrev pub IsPassed : List ℕ → List ℕ → List ℕ → List ℕ → ℕ → Type 0
 IsPassed before trues old new place = IsSatisfied trues new ⊎ IsRewatched before old new place
 
+-- the clause of an entry at a place of a literal's list needs no further look
+abbrev pub IsVisited : Assigned → Assigned → Watched → Watched → ℕ → ℕ → Type 0
+IsVisited before after old new w i = (id : ℕ) → slot_at old.clauses id ≡ Some (watch_at old w i).slot
+    → IsPassed (literals before.entries) (literals after.entries) (lits_at old.clauses id) (lits_at new.clauses id) (watch_at old w i).place
+
 -- ---- Steps of a propagation
 
 -- one of its literals is true now, or its first two weren't false before
@@ -108,15 +120,15 @@ abbrev pub IsDone : List ℕ → List ℕ → List ℕ → Type 0
 IsDone before trues ls = IsSatisfied trues ls ⊎ HasTwo before ls
 
 -- a clause of two literals or more that needs no look
-abbrev pub Rests : List ℕ → List ℕ → Type 0
-Rests trues ls = (2 ≤ length ls) × (IsSatisfied trues ls ⊎ HasTwo trues ls)
+abbrev pub NeedsNoVisit : List ℕ → List ℕ → Type 0
+NeedsNoVisit trues ls = (2 ≤ length ls) × (IsSatisfied trues ls ⊎ HasTwo trues ls)
 
 -- orders of lists have changed, and literals that follow have come on the trail
 pub record Advances (old new : Watched) (before after : Assigned) : Type 0 where
-  pub moved : IsMoved (literals before.steps) old.clauses new.clauses
-  pub more : List Step
-  pub grown : after.steps ≡ before.steps ++ more
+  pub moved : IsMoved (literals before.entries) old.clauses new.clauses
+  pub more : List TrailEntry
+  pub grown : after.entries ≡ before.entries ++ more
   pub forced : level_after more ≡ 0
   pub vars : after.vars ≡ before.vars
   pub wide : length new.lists ≡ length old.lists
-  pub engine : IsEngine (engine_of new.clauses after.steps after.vars)
+  pub engine : IsEngine (engine_of new.clauses after.entries after.vars)

@@ -4,7 +4,7 @@ ghost use Rattle.std.specs.Prelude.{◌≡◌, ◌≤◌, [], IfOk};
 ghost use Rattle.lits.specs.Literal.{var};
 ghost use Rattle.propagation.specs.Engine.{no_engine, with_vars};
 
-use crate::{Engine, law_of_trails};
+use crate::{Engine, law_of_forced_literals, law_of_places, law_of_trails};
 use clause_store::{Slot, StoreFault};
 use lits::Lit;
 use std::alloc::{AllocError, Global};
@@ -58,7 +58,7 @@ fn let_go(engine: &mut Engine, id: u64) -> bool
     if engine.level() != 0 {
         return false;
     }
-    engine.release(id);
+    engine.replace_reason(id);
     engine.delete(id).is_ok()
 }
 
@@ -93,6 +93,8 @@ fn what_follows_comes_on_the_trail(rt: HostRuntime) -> Result<(), Fail> {
     assert_eq!(rt; engine.reason(lit(4)), None);
     assert!(rt; engine.reason(lit(3)).is_some());
     assert!(rt; engine.reason(lit(3)) == engine.store().find(2));
+    assert_eq!(rt; engine.place_of(lit(3)), Some(2));
+    assert_eq!(rt; engine.place_of(lit(-3)), None);
     Ok(())
 }
 
@@ -280,5 +282,7 @@ fn an_asserting_clause_gives_its_first_literal(rt: HostRuntime) -> Result<(), Fa
     assert_eq!(rt; engine.delete(6), Ok(()));
     assert!(rt; engine.store().find(6).is_none());
     law_of_trails();
+    law_of_forced_literals();
+    law_of_places();
     Ok(())
 }

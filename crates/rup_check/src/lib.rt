@@ -1,10 +1,18 @@
-//! Whether literals are refuted by unit propagation.
+//! Whether literals are refuted by unit propagation: the test by which a lemma and a core are checked.
+//!
+//! The engine's trail without assumptions is extended as far as it goes and stays so, since it serves the next test. Then the
+//! literals are assumed one after another, each as a level of its own, and propagation goes on. There is a closing sequence
+//! exactly where a literal to be assumed is false already, or a clause becomes false. Behind the test the engine is back at
+//! level 0.
+//!
+//! `closes_with` answers with hints, too: the reasons along the trail in their order, and the false clause last. These are
+//! more than are needed, but each is read once, and no search stands behind them.
 #![tactic(auto)]
 
 ghost use Rattle.std.specs.Prelude.{◌≡◌, ℕ, ◌≤◌, List, ◌++◌, Contains, All, IsTrue, Bool, true, false, None, IfOk, OnErr, is_some};
 ghost use Rattle.lits.specs.Literal.{var, neg};
 ghost use Rattle.session_rules.specs.Logic as logic;
-ghost use Rattle.propagation.specs.declared.Step.{Step};
+ghost use Rattle.propagation.specs.declared.TrailEntry.{TrailEntry};
 ghost use Rattle.propagation.specs.Clauses.{active, active_at, slot_of};
 ghost use Rattle.propagation.specs.Engine.{literals, level_after, Grows, IsEngine, IsFalseAt, ReasonsAre, IsOnce};
 ghost use Rattle.rup_check.specs.Assuming.{Assumes, EndsAt};
@@ -12,6 +20,7 @@ ghost use Rattle.rup_check.specs.Assuming.{Assumes, EndsAt};
 use clause_store::Slot;
 use lits::Lit;
 use propagation::Engine;
+use session_rules::Ids;
 use std::alloc::{AllocError, Global};
 
 /// Whether there is a closing sequence of the active clauses from these literals.
@@ -35,8 +44,10 @@ fn assume_each(engine: &mut Engine, start: &[Lit]) -> bool
     requires { (l : ℕ) → Contains start.now l → var l ≤ engine.old.vars }
     ensures assumed { Assumes start.now engine.old engine.new }
     ensures engine { IsTrue result → IsEngine engine.new }
-    ensures opposite { IsTrue result → (l : ℕ) × Contains start.now l × IsTrue (logic.has (literals engine.new.trail) (neg l)) }
-    ensures each { result ≡ false → (l : ℕ) → Contains start.now l → IsTrue (logic.has (literals engine.new.trail) l) }
+    ensures opposite { IsTrue result
+        → (l : ℕ) × Contains start.now l × IsTrue (logic.has (literals engine.new.trail) (neg l)) }
+    ensures each { result ≡ false
+        → (l : ℕ) → Contains start.now l → IsTrue (logic.has (literals engine.new.trail) l) }
 {
     for l in start {
         match engine.value(*l) {
@@ -49,10 +60,10 @@ fn assume_each(engine: &mut Engine, start: &[Lit]) -> bool
 }
 
 /// The ids of the reasons along the trail.
-fn reasons(alloc: Global, engine: &Engine) -> Result<Vec<u64>, AllocError>
-    ensures { IfOk result (λ v. ReasonsAre engine.now.clauses engine.now.trail v.items) }
+fn reasons(alloc: Global, engine: &Engine) -> Result<Ids, AllocError>
+    ensures { IfOk result (λ ids. ReasonsAre engine.now.clauses engine.now.trail ids) }
 {
-    let mut ids = Vec::new(alloc);
+    let mut ids = Ids::new(alloc);
     for l in engine.trail() {
         if let Some(slot) = engine.reason(*l) {
             ids.push(engine.store().id_of(slot))?;
@@ -62,32 +73,35 @@ fn reasons(alloc: Global, engine: &Engine) -> Result<Vec<u64>, AllocError>
 }
 
 /// These, and the id of a false clause.
-fn conflict(alloc: Global, engine: &Engine, slot: Slot) -> Result<Vec<u64>, AllocError>
+fn conflict(alloc: Global, engine: &Engine, slot: Slot) -> Result<Ids, AllocError>
     requires { IsFalseAt engine.now slot }
-    ensures { IfOk result (λ v. EndsAt engine.now slot v.items) }
+    ensures { IfOk result (λ ids. EndsAt engine.now slot ids) }
 {
     let mut ids = reasons(alloc, engine)?;
     ids.push(engine.store().id_of(slot))?;
     Ok(ids)
 }
 
-/// As `closes`, with hints that close.
+/// As `closes`; where there is a closing sequence the hints become ids of active clauses that close, none of them twice.
+/// Else, and where memory is wanting, they stay.
 pub fn closes_with(
+    alloc: Global,
     engine: &mut Engine,
     start: &[Lit],
-    hints: &mut Vec<u64>,
+    hints: &mut Ids,
 ) -> Result<bool, AllocError>
     requires level { level_after engine.old.trail ≡ 0 }
     requires reserved { (l : ℕ) → Contains start.now l → var l ≤ engine.old.vars }
-    ensures closed { IfOk result (λ b. IsTrue b → logic.hints_fail (active_at engine.old.clauses) start.now hints.new.items ≡ None) }
-    ensures once { IfOk result (λ b. IsTrue b → IsOnce hints.new.items) }
-    ensures active { IfOk result (λ b. IsTrue b → (id : ℕ) → IsTrue (logic.has hints.new.items id) → IsTrue (is_some (slot_of engine.old.clauses id))) }
+    ensures closed { IfOk result (λ b. IsTrue b
+        → logic.hints_fail (active_at engine.old.clauses) start.now hints.new ≡ None) }
+    ensures once { IfOk result (λ b. IsTrue b → IsOnce hints.new) }
+    ensures active { IfOk result (λ b. IsTrue b
+        → (id : ℕ) → IsTrue (logic.has hints.new id) → IsTrue (is_some (slot_of engine.old.clauses id))) }
     ensures complete { IfOk result (λ b. b ≡ false → logic.Closes (active engine.old.clauses) start.now → ⊥) }
-    ensures kept { IfOk result (λ b. b ≡ false → hints.new.items ≡ hints.old.items) }
-    ensures err { OnErr result (hints.new.items ≡ hints.old.items) }
+    ensures kept { IfOk result (λ b. b ≡ false → hints.new ≡ hints.old) }
+    ensures err { OnErr result (hints.new ≡ hints.old) }
     ensures frame { Grows engine.old engine.new }
 {
-    let alloc = *hints.allocator();
     if let Some(slot) = engine.propagate() {
         let found = conflict(alloc, engine, slot)?;
         *hints = found;

@@ -13,11 +13,11 @@ loop-l-init c = λ k lt. absurd (omega arith)
 pub loop-l-preserved : goal.loop-l-preserved
 loop-l-preserved c = below_more _ _ c.loop-l.invariant (λ at.
     let item : get_or c.args.lits.now c.loop-l.l-index 0 ≡ c.l-item.result = get_or_default _ _ 0 c.l-item.result c.loop-l-test.true ∙ sym c.l-item.is in
-    let reason : c.reason.result ≡ Some c.args.slot = c.reason.ensures ∙ ap (reason_in c.args.trail.now.steps) (sym item) ∙ at in
+    let reason : c.reason.result ≡ Some c.args.slot = c.reason.ensures ∙ ap (reason_in c.args.trail.now.entries) (sym item) ∙ at in
     elim c.match-reason.branch [
       | in-Some+else-eq w ↦ eqb-false _ _ (sym w.eq.ensures ∙ w.if-eq.false) (same_Some _ _ (sym w.in-Some.is ∙ reason))
       | in_default w ↦ none-some _ (sym w.in_default.is ∙ reason)
     ])
 
 pub returns-clause-none : goal.returns-clause-none
-returns-clause-none c = λ l m at. let r = index_of _ l m in c.loop-l.invariant r.0 (omega (arith, r.1, c.loop-l-test.false)) (ap (reason_in c.args.trail.now.steps) r.2 ∙ at)
+returns-clause-none c = λ l m at. let r = index_of _ l m in c.loop-l.invariant r.0 (omega (arith, r.1, c.loop-l-test.false)) (ap (reason_in c.args.trail.now.entries) r.2 ∙ at)

@@ -5,7 +5,7 @@ use Rattle.session_rules.specs.Logic.{has}
 use Rattle.propagation.specs.Engine.{literals}
 use Rattle.propagation.proofs.Scan.{contains_at, index_of}
 use Rattle.rup_check.specs.Assuming.{Assumes}
-use Rattle.rup_check.proofs.Assuming.{Assumes-none, Assumes-step, value_true, value_false, has-step, has-step_new}
+use Rattle.rup_check.proofs.Assuming.{Assumes-none, Assumes-entry, value_true, value_false, has-entry, has-step_new}
 use Rattle.rup_check.proofs.assume_each.Goals as goal
 use Rattle.rup_check.proofs.assume_each.Goals.{in-Some-true, in-None}
 
@@ -42,9 +42,9 @@ loop-l-preserved c =
       }
       | in-None w ↦ record {
         assumed = subst (λ z. Assumes c.args.start.now c.args.engine.now z) (sym w.engine-is)
-            (Assumes-step c.args.start.now c.args.engine.now c.loop-l.engine w.assume.new.self c.l-item.result c.loop-l.invariant.assumed here w.assume.ensures);
+            (Assumes-entry c.args.start.now c.args.engine.now c.loop-l.engine w.assume.new.self c.l-item.result c.loop-l.invariant.assumed here w.assume.ensures);
         each = subst (λ z. (k : ℕ) → k < c.loop-l.l-index + 1 → has (literals z.trail) (get_or c.args.start.now k 0) ≡ true) (sym w.engine-is)
-            (below_more _ _ (λ k lt. has-step c.loop-l.engine w.assume.new.self c.l-item.result (get_or c.args.start.now k 0) None w.assume.ensures (c.loop-l.invariant.each k lt))
+            (below_more _ _ (λ k lt. has-entry c.loop-l.engine w.assume.new.self c.l-item.result (get_or c.args.start.now k 0) None w.assume.ensures (c.loop-l.invariant.each k lt))
             (subst (λ z. has (literals w.assume.new.self.trail) z ≡ true) (sym item) (has-step_new c.loop-l.engine w.assume.new.self c.l-item.result None w.assume.ensures)));
       }
     ]

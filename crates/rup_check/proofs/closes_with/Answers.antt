@@ -23,7 +23,7 @@ returns-then-assume_each-clause-closed c = λ t.
     let one : AssumesBy c.propagate.new.self.trail c.args.start.now = subst (λ z. AssumesBy z c.args.start.now) (sym (trail-of _ _ g.0 g.1)) (by_append _ g.0 _ (by_level _ _ c.requires.level) (by_level g.0 _ g.2)) in
     let two : AssumesBy c.assume_each.new.engine.trail c.args.start.now = subst (λ z. AssumesBy z c.args.start.now) (sym (trail-of _ _ a.added a.grown)) (by_append _ a.added _ one (by_added _ _ _ a)) in
     same_hints _ _ g.0 _ _ g.1 (same_hints _ _ a.added _ _ a.grown
-    (hints_at_opposite c.assume_each.new.engine c.args.start.now c.in_ok-hints.field-0.items o.0 (c.assume_each.ensures.engine c.if-assume_each.true) (from_by _ _ two) c.in_ok-hints.ensures (has_from _ _ o.1) o.2))
+    (hints_at_opposite c.assume_each.new.engine c.args.start.now c.in_ok-hints.field-0 o.0 (c.assume_each.ensures.engine c.if-assume_each.true) (from_by _ _ two) c.in_ok-hints.ensures (has_from _ _ o.1) o.2))
 
 pub returns-in-Some-propagate-clause-closed : goal.returns-in-Some-propagate-clause-closed
 returns-in-Some-propagate-clause-closed c = λ t.
@@ -67,7 +67,7 @@ returns-in-Some-clause-once c = λ t. let h = c.in_ok-found.ensures in
     subst IsOnce (sym h.2) (once_conflict c.propagate.new.self h.0 c.in-Some.slot h.1 c.propagate.ensures.sound h.3 c.in-Some.ensures.found h.4)
 
 pub returns-then-assume_each-clause-once : goal.returns-then-assume_each-clause-once
-returns-then-assume_each-clause-once c = λ t. once_reasons c.assume_each.new.engine c.in_ok-hints.field-0.items (c.assume_each.ensures.engine c.if-assume_each.true) c.in_ok-hints.ensures
+returns-then-assume_each-clause-once c = λ t. once_reasons c.assume_each.new.engine c.in_ok-hints.field-0 (c.assume_each.ensures.engine c.if-assume_each.true) c.in_ok-hints.ensures
 
 pub returns-in-Some-propagate-clause-once : goal.returns-in-Some-propagate-clause-once
 returns-in-Some-propagate-clause-once c = λ t. let k = c.in_ok-hints-2.ensures in
@@ -79,7 +79,7 @@ returns-in-Some-clause-active c = λ t id m. let g = c.propagate.ensures.grows i
 
 pub returns-then-assume_each-clause-active : goal.returns-then-assume_each-clause-active
 returns-then-assume_each-clause-active c = λ t id m. let g = c.propagate.ensures.grows in let a = c.assume_each.ensures.assumed in
-    subst (λ z. is_some (slot_of z.clauses id) ≡ true) (a.grown ∙ ap (λ z. with_trail z (z.trail ++ a.added)) g.1) (active_reasons c.assume_each.new.engine.clauses c.assume_each.new.engine.trail c.in_ok-hints.field-0.items c.in_ok-hints.ensures id m)
+    subst (λ z. is_some (slot_of z.clauses id) ≡ true) (a.grown ∙ ap (λ z. with_trail z (z.trail ++ a.added)) g.1) (active_reasons c.assume_each.new.engine.clauses c.assume_each.new.engine.trail c.in_ok-hints.field-0 c.in_ok-hints.ensures id m)
 
 pub returns-in-Some-propagate-clause-active : goal.returns-in-Some-propagate-clause-active
 returns-in-Some-propagate-clause-active c = λ t id m. let g = c.propagate.ensures.grows in let a = c.assume_each.ensures.assumed in let h = c.propagate-2.ensures.grows in let k = c.in_ok-hints-2.ensures in

@@ -7,11 +7,11 @@ use Rattle.pair_matcher.proofs.JudgingSets.{weakening_none, weakening_done}
 use Rattle.pair_matcher.proofs.idrup.judge_weakening.Goals as goal
 
 pub returns-in_default-clause-judged : goal.returns-in_default-clause-judged
-returns-in_default-clause-judged c = weakening_none c.store.result.now c.args.p.now.engine c.args.p.now.engine c.store.ensures _ _ _
+returns-in_default-clause-judged c = weakening_none c.store.result.now c.args.p.now.engine c.args.p.now.engine c.store.ensures.clauses _ _ _
     c.in_ok-set.set c.in_ok-set.ensures.set _ c.in_default.ensures.none
 
 pub returns-in-Ok-clause-judged : goal.returns-in-Ok-clause-judged
 returns-in-Ok-clause-judged c = subst (λ z. Judged (holding z c.args.p.now.next c.args.p.now.events) (holding (clauses_of_engine c.weaken.new.self) c.args.p.now.next c.args.p.now.events) (steps.Weaken c.args.lits.now) None)
-    (ap (kept_by kept_of_clause) c.release.ensures.clauses)
-    (weakening_done c.store.result.now c.release.new.self c.weaken.new.self (c.store.ensures ∙ sym c.release.ensures.clauses) _ _ _ c.in_ok-set.set c.in_ok-set.ensures.set
+    (ap (kept_by kept_of_clause) c.replace_reason.ensures.clauses)
+    (weakening_done c.store.result.now c.replace_reason.new.self c.weaken.new.self (c.store.ensures.clauses ∙ sym c.replace_reason.ensures.clauses) _ _ _ c.in_ok-set.set c.in_ok-set.ensures.set
     c.in-Some.id c.in-Some.ensures.found c.in-Some.ensures.least c.in-Ok.ensures.ok)

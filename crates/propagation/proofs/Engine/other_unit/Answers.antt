@@ -15,7 +15,7 @@ pub returns-in-Some-clause-some : goal.returns-in-Some-clause-some
 returns-in-Some-clause-some c =
     let o = c.self.inside in
     subst (λ z. IfSome c.find.result (λ s. IsOtherUnit z c.args.id c.args.l s)) c.self.view_is
-    (unit_found o.watches.clauses o.trail.steps o.trail.vars c.args.id c.in-Some.least c.args.l c.in-Ok.set (c.in-Ok.ensures.set ∙ one_set c.args.l) c.in-Some.ensures.found c.if-least-id.false c.find.result c.find.ensures.slot)
+    (unit_found o.watches.clauses o.trail.entries o.trail.vars c.args.id c.in-Some.least c.args.l c.in-Ok.set (c.in-Ok.ensures.set ∙ one_set c.args.l) c.in-Some.ensures.found c.if-least-id.false c.find.result c.find.ensures.slot)
 
 pub returns-clause-none : goal.returns-clause-none
 returns-clause-none c = λ x at.

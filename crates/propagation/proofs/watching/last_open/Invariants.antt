@@ -7,7 +7,7 @@ use Rattle.propagation.proofs.watching.last_open.Given as goal
 abbrev pub invariant-loop-i : goal.invariant-loop-i
 invariant-loop-i l = record {
   within : l.i ≤ l.end;
-  passed : (k : ℕ) → l.i ≤ k → k < l.end → has (literals l.trail.steps) (entry_at l.list k).blocker ≡ true;
+  passed : (k : ℕ) → l.i ≤ k → k < l.end → has (literals l.trail.entries) (entry_at l.list k).blocker ≡ true;
 }
 
 abbrev pub decreases-loop-i : goal.decreases-loop-i

@@ -5,4 +5,4 @@ use Rattle.propagation.specs.Engine.{literals}
 use Rattle.propagation.proofs.watching.next_not_false.Given as goal
 
 abbrev pub invariant-loop-k : goal.invariant-loop-k
-invariant-loop-k l = (j : ℕ) → l.from ≤ j → j < l.k → has (literals l.trail.steps) (neg (get_or l.lits j 0)) ≡ true
+invariant-loop-k l = (j : ℕ) → l.from ≤ j → j < l.k → has (literals l.trail.entries) (neg (get_or l.lits j 0)) ≡ true

@@ -31,7 +31,7 @@ is_true-requires c =
     let r : Looks c.args.watches.now c.args.w c.args.i c.slot-slot.result c.list.result.now c.index-list-i.result c.lits.result.now = record { reads = record { sound = c.requires.sound; within = c.requires.within; list_is = c.list.ensures.list; entry_is = c.index-list-i.is; slot_is = c.slot-slot.ensures }; lits = c.lits.ensures.list } in
     let at = looks_here _ _ _ _ _ _ _ r in
     let lt : c.args.k < length c.lits.result.now = subst (λ z. c.args.k < length z) (looks_lits _ _ _ _ _ _ _ r at.0 at.1) (c.requires.in_bounds at.0 at.1) in
-    subst (λ z. var z ≤ c.args.trail.now.vars) (sym (c.index-lits-k.is ∙ get_or_default _ _ c.index-lits-k.result 0 lt)) (looks_reserved _ _ _ _ _ _ _ r c.args.trail.now.steps c.args.trail.now.vars c.requires.engine c.args.k lt)
+    subst (λ z. var z ≤ c.args.trail.now.vars) (sym (c.index-lits-k.is ∙ get_or_default _ _ c.index-lits-k.result 0 lt)) (looks_reserved _ _ _ _ _ _ _ r c.args.trail.now.entries c.args.trail.now.vars c.requires.engine c.args.k lt)
 
 pub block-requires-clause-member : goal.block-requires-clause-member
 block-requires-clause-member c = λ id at.
@@ -61,7 +61,7 @@ returns-else-is_true-clause-moved c =
     let at = looks_here _ _ _ _ _ _ _ r in
     let e = c.requires.sound.entries at.0 c.args.w c.args.i c.requires.within at.1 in
     let lt = c.requires.in_bounds at.0 at.1 in
-    let x : Rewatches (literals c.args.trail.now.steps) c.args.watches.now c.move_watch.new.self at.0 (watch_at c.args.watches.now c.args.w c.args.i).place c.args.k = record {
+    let x : Rewatches (literals c.args.trail.now.entries) c.args.watches.now c.move_watch.new.self at.0 (watch_at c.args.watches.now c.args.w c.args.i).place c.args.k = record {
       brought = brought_later _ _ at.0 (watch_at c.args.watches.now c.args.w c.args.i).slot _ c.args.k (record { slot = at.1; before = c.requires.sound; after = c.move_watch.ensures.sound; is = c.move_watch.ensures.exchanged at.0 at.1; wide = c.move_watch.ensures.wide }) e.low c.requires.later lt;
       low = e.low;
       later = c.requires.later;
@@ -74,7 +74,7 @@ pub returns-else-is_true-clause-passed : goal.returns-else-is_true-clause-passed
 returns-else-is_true-clause-passed c = λ id at.
     let e = c.requires.sound.entries id c.args.w c.args.i c.requires.within at in
     let lt = c.requires.in_bounds id at in
-    let x : Rewatches (literals c.args.trail.now.steps) c.args.watches.now c.move_watch.new.self id (watch_at c.args.watches.now c.args.w c.args.i).place c.args.k = record {
+    let x : Rewatches (literals c.args.trail.now.entries) c.args.watches.now c.move_watch.new.self id (watch_at c.args.watches.now c.args.w c.args.i).place c.args.k = record {
       brought = brought_later _ _ id (watch_at c.args.watches.now c.args.w c.args.i).slot _ c.args.k (record { slot = at; before = c.requires.sound; after = c.move_watch.ensures.sound; is = c.move_watch.ensures.exchanged id at; wide = c.move_watch.ensures.wide }) e.low c.requires.later lt;
       low = e.low;
       later = c.requires.later;

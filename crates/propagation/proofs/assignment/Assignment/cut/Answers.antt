@@ -10,6 +10,6 @@ free_from-requires-clause-reach c l h = reach-behind _ _ _ _ _ _ _ c.args.n _ _ 
 pub invariant_of-self : goal.invariant_of-self
 invariant_of-self c =
     let freed : AreFreed c.self.inside.values.items (drop c.args.n c.self.inside.lits.items) c.free_from.new.values = rw (c.deref_mut.ensures.value, c.deref.ensures.value) at c.free_from.ensures in
-    let low : c.args.level ≡ level_after (take c.args.n c.self.inside.steps.items) = c.requires.level ∙ ap (λ z. level_after (take c.args.n z.steps)) (sym c.self.view_is) in
+    let low : c.args.level ≡ level_after (take c.args.n c.self.inside.entries.items) = c.requires.level ∙ ap (λ z. level_after (take c.args.n z.entries)) (sym c.self.view_is) in
     assigned-cut _ _ _ _ _ _ _ _ _ c.args.n _ _ _ _ _ c.self.invariant c.truncate.ensures.items c.truncate-2.ensures.items low freed c.self.inside.values.ok.0
     (omega (arith, c.truncate.ensures.capacity)) (omega (arith, c.truncate-2.ensures.capacity))

@@ -8,6 +8,6 @@ use Rattle.propagation.proofs.assignment.Assignment.is_false.Goals as goal
 pub returns-in-True : goal.returns-in-True
 returns-in-True c =
     let o = c.self.inside in
-    let low : var c.args.l ≤ length o.marks.items = subst (λ z. var c.args.l ≤ z) (sym (ap (λ z. z.vars) c.self.view_is)) c.requires in
-    let here : has (literals o.steps.items) c.args.l ≡ true = true-table o.steps.items _ o.values.items o.marks.items _ _ _ c.args.l c.code.result c.index.result.now c.self.invariant low c.code.ensures.code c.index.ensures c.in-True.is in
-    sym (ap (λ z. has (literals z.steps) (neg c.args.l)) (sym c.self.view_is) ∙ true-alone _ o.steps.items c.args.l c.self.invariant.each_new here)
+    let low : var c.args.l ≤ length o.origins.items = subst (λ z. var c.args.l ≤ z) (sym (ap (λ z. z.vars) c.self.view_is)) c.requires in
+    let here : has (literals o.entries.items) c.args.l ≡ true = true-table o.entries.items _ o.values.items o.origins.items _ _ _ c.args.l c.code.result c.index.result.now c.self.invariant low c.code.ensures.code c.index.ensures c.in-True.is in
+    sym (ap (λ z. has (literals z.entries) (neg c.args.l)) (sym c.self.view_is) ∙ true-alone _ o.entries.items c.args.l c.self.invariant.each_new here)

@@ -5,9 +5,9 @@ use Rattle.propagation.proofs.assignment.Assignment.level_of.Goals as goal
 
 pub returns-in-Some : goal.returns-in-Some
 returns-in-Some c =
-    level-read c.self.inside.steps.items c.self.inside.marks.items c.args.l c.in-Some.field-0 c.index.result.now c.self.invariant.each_mark (ap (λ z. value_in (literals z.steps) c.args.l) c.self.view_is ∙ sym c.value.ensures ∙ c.in-Some.is)
-    (c.index.ensures ∙ ap (λ k. get_or c.self.inside.marks.items (k - 1) c.index.result.now) c.var.ensures.variable)
-    ∙ ap (λ z. level_behind 0 z.steps c.args.l) c.self.view_is
+    level-read c.self.inside.entries.items c.self.inside.origins.items c.args.l c.in-Some.field-0 c.index.result.now c.self.invariant.each_origin (ap (λ z. value_in (literals z.entries) c.args.l) c.self.view_is ∙ sym c.value.ensures ∙ c.in-Some.is)
+    (c.index.ensures ∙ ap (λ k. get_or c.self.inside.origins.items (k - 1) c.index.result.now) c.var.ensures.variable)
+    ∙ ap (λ z. level_behind 0 z.entries c.args.l) c.self.view_is
 
 pub returns-in-None : goal.returns-in-None
-returns-in-None c = sym (level-free 0 c.args.self.now.steps c.args.l (value-none (literals c.args.self.now.steps) c.args.l (sym c.value.ensures ∙ c.in-None.is)))
+returns-in-None c = sym (level-free 0 c.args.self.now.entries c.args.l (value-none (literals c.args.self.now.entries) c.args.l (sym c.value.ensures ∙ c.in-None.is)))

@@ -1,21 +1,20 @@
-use Rattle.std.proofs.Common.{◌≡◌, ◌-◌, true, get_or, length, sym, ap, ◌∙◌}
-use Rattle.session_rules.specs.Logic.{has}
-use Rattle.propagation.specs.Engine.{literals, reason_in}
-use Rattle.propagation.specs.Assigned.{value_of}
-use Rattle.propagation.proofs.Assigning.{true-read, false-read, value-none, reason-none}
+use Rattle.std.proofs.Common.{◌≡◌, Some, None, length, sym, ap, ◌∙◌, arith}
+use Rattle.propagation.specs.Engine.{literals, reason_in, place_in}
+use Rattle.propagation.proofs.Assigning.{reason-none}
+use Rattle.propagation.proofs.Places.{place-below, place-entry, no_place-absent}
 use Rattle.propagation.proofs.Resting.{read-reason}
 use Rattle.propagation.proofs.assignment.Assignment.reason.Goals as goal
 
-pub returns-in-True : goal.returns-in-True
-returns-in-True c =
-    let o = c.self.inside in
-    let on : has (literals o.steps.items) c.args.l ≡ true = ap (λ z. has (literals z.steps) c.args.l) c.self.view_is ∙ true-read (literals c.args.self.now.steps) c.args.l (sym c.entry.ensures ∙ ap value_of c.in-True.is) in
-    let mark = c.self.invariant.each_mark c.args.l c.index.result.now on (c.index.ensures ∙ ap (λ k. get_or o.marks.items (k - 1) c.index.result.now) c.var.ensures.variable) in
-    read-reason (length o.marks.items) o.steps.items c.args.l c.index.result.now.place c.index-in-True.result.now c.self.invariant.each_new mark.at c.index-in-True.ensures
-    ∙ ap (λ z. reason_in z.steps c.args.l) c.self.view_is
+pub index-requires : goal.index-requires
+index-requires c = let o = c.self.inside in
+    let at : Some c.in-Some.place ≡ place_in (literals o.entries.items) c.args.l = c.in-Some.ensures ∙ ap (λ z. place_in (literals z.entries) c.args.l) (sym c.self.view_is) in
+    let low = place-below o.entries.items c.args.l c.in-Some.place at in omega (arith, low, o.entries.ok.0)
 
-pub returns-in-False : goal.returns-in-False
-returns-in-False c = sym (reason-none c.args.self.now.steps c.args.l (false-read (literals c.args.self.now.steps) c.args.l (sym c.entry.ensures ∙ ap value_of c.in-False.is)).0)
+pub returns-in-Some : goal.returns-in-Some
+returns-in-Some c = let o = c.self.inside in
+    let at : Some c.in-Some.place ≡ place_in (literals o.entries.items) c.args.l = c.in-Some.ensures ∙ ap (λ z. place_in (literals z.entries) c.args.l) (sym c.self.view_is) in
+    read-reason (length o.origins.items) o.entries.items c.args.l c.in-Some.place c.index.result.now c.self.invariant.each_new (place-entry o.entries.items c.args.l c.in-Some.place at) c.index.ensures
+    ∙ ap (λ z. reason_in z.entries c.args.l) c.self.view_is
 
-pub returns-in-Free : goal.returns-in-Free
-returns-in-Free c = sym (reason-none c.args.self.now.steps c.args.l (value-none (literals c.args.self.now.steps) c.args.l (sym c.entry.ensures ∙ ap value_of c.in-Free.is)).0)
+pub returns-in-None : goal.returns-in-None
+returns-in-None c = sym (reason-none c.args.self.now.entries c.args.l (no_place-absent c.args.self.now.entries c.args.l c.in-None.ensures))
