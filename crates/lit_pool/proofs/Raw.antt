@@ -141,7 +141,7 @@ module _ {M : Type 1} {𝓤 : Ura M} (𝓛 : Logic 𝓤) (b : ℕ) where
       rewrite ! 0 (λ (k : ℕ). ‵ (froom (ty_array lit_type k) b o)) long refl $ by ! (𝓛.laws.room-raw (ty_array lit_type n) b o))
 
 -- the size and the alignment of a block
-pub block_size : (n : ℕ) → n < 2 ^ 32 → capped (size (block_type n)) ≡ n * 4
+pub block_size : (n : ℕ) → n < 2 ^ 40 → capped (size (block_type n)) ≡ n * 4
 block_size n small = ap capped (size-raw (ty_array lit_type n)) ∙ capped_is (n * 4) (omega arith)
 
 pub block_align : (n : ℕ) → capped (align (block_type n)) ≡ 4

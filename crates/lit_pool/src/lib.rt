@@ -23,10 +23,10 @@ mod plain;
 mod tests;
 mod words;
 
-use crate::freed::{Freed, size_for};
+use crate::freed::{Freed, Size, size_for, size_within};
 use crate::kind::Kind;
 use crate::words::Words;
-use lits::{Lit, MAX_VAR};
+use lits::Lit;
 use std::alloc::{AllocError, Global};
 use std::marker::Model;
 
@@ -49,11 +49,12 @@ impl Model for Slot {
     ghost inverse = { λ n. record { number = n } };
 }
 
-/// Each slot is below this number, which as a link's word stands for no slot.
-const SLOTS_END: u32 = 2 * MAX_VAR - 1;
+/// Each slot is below this number, which as a link's word stands for no slot. A slot counts units of 32 bytes, so this many
+/// are 64 GiB. A slot and one bit beside it go into 32 bits, as watch lists keep them.
+const SLOTS_END: u32 = 2_147_483_648;
 
-/// No entry has more literals.
-const MOST_LITERALS: usize = 16_000_000;
+/// No entry has more literals: a word that tells their number is the code of a literal. So many take 16 GiB.
+const MOST_LITERALS: usize = 4_294_967_292;
 
 impl Slot {
     /// The slot as a number.
@@ -144,10 +145,10 @@ impl Pool {
         if lits.len() > MOST_LITERALS {
             return Err(AllocError);
         }
-        let (size, units) = size_for(lits.len());
+        let size = size_for(lits.len());
         match self.reuse(size, lits) {
             Some(s) => Ok(s),
-            None => self.push(units, lits),
+            None => self.push(size.units, lits),
         }
     }
 
@@ -214,28 +215,38 @@ impl Pool {
         requires live { IsLive self.old s }
         ensures { self.new ≡ map.remove self.old s }
     {
-        let (size, _) = size_for(piece::len(&self.words, s));
+        let size = size_within(piece::units(&self.words, s));
         pieces::vacate(&mut self.words, &mut self.kinds, s, self.freed.last(size));
         self.freed.set_last(size, Some(s));
         self.live -= 1;
     }
 
-    /// Puts an entry into the piece that was freed last among those of this size. There may be none.
-    fn reuse(&mut self, size: usize, lits: &[Lit]) -> Option<Slot>
-        requires { length lits.now ≤ most_literals }
+    /// Puts an entry into a freed piece: the one that was freed last among those of this size, or of the next greater size
+    /// that has one, whose units beyond the size become a freed piece of their own. There may be none.
+    fn reuse(&mut self, size: Size, lits: &[Lit]) -> Option<Slot>
+        requires few { length lits.now ≤ most_literals }
+        requires room { length lits.now + 4 ≤ 8 * size.units }
         ensures fresh { IfSome result (λ s. map.get self.old s ≡ None) }
         ensures some { IfSome result (λ s. self.new ≡ map.insert self.old s (new_entry lits.now)) }
         ensures none { IfNone result (self.new ≡ self.old) }
     {
-        let Some(s) = self.freed.last(size) else {
+        let from = self.freed.size_from(size.number);
+        let Some(s) = self.freed.last(from) else {
             return None;
         };
-        if !pieces::has_room(&self.words, &self.kinds, s, lits.len()) {
+        if !pieces::has_units(&self.words, &self.kinds, s, size.units) {
             return None;
         }
         let next = piece::link(&self.words, s, Which::One);
+        self.freed.set_last(from, next);
+        pieces::trim(
+            &mut self.words,
+            &mut self.kinds,
+            &mut self.freed,
+            s,
+            size.units,
+        );
         pieces::occupy(&mut self.words, &mut self.kinds, s, lits);
-        self.freed.set_last(size, next);
         self.live += 1;
         Some(s)
     }
@@ -244,7 +255,7 @@ impl Pool {
     fn push(&mut self, units: usize, lits: &[Lit]) -> Result<Slot, AllocError>
         requires few { length lits.now ≤ most_literals }
         requires room { length lits.now + 4 ≤ 8 * units }
-        requires limit { units ≤ 4000001 }
+        requires limit { units ≤ 536870912 }
         ensures fresh { IfOk result (λ s. map.get self.old s ≡ None) }
         ensures ok { IfOk result (λ s. self.new ≡ map.insert self.old s (new_entry lits.now)) }
         ensures err { OnErr result (self.new ≡ self.old) }

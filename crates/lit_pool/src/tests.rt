@@ -97,6 +97,22 @@ fn a_freed_piece_serves_a_later_entry(rt: HostRuntime) -> Result<(), Fail> {
     assert_eq!(rt; pool.lits(d).len(), 4);
     // one unit for a list of at most 4 literals, and 128 for one of 509 to 1,020
     assert_eq!(rt; pool.kinds.len(), 129);
+    assert!(rt; pool.is_live(c));
+    pool.free(c);
+    // 8 units for a list of 60, so 16 of them have the units of the one that was freed
+    let sixty = many(alloc, 60)?;
+    let mut shorter = Vec::new(alloc);
+    for _ in 0..16 {
+        shorter.push(pool.add(&sixty)?)?;
+        assert_eq!(rt; pool.kinds.len(), 129);
+    }
+    for s in &shorter {
+        assert!(rt; pool.is_live(*s) && pool.lits(*s) == sixty.as_slice());
+    }
+    let longest = many(alloc, 20_000)?;
+    let e = pool.add(&longest)?;
+    assert!(rt; pool.lits(e) == longest.as_slice());
+    assert_eq!(rt; pool.kinds.len(), 129 + 4096);
     Ok(())
 }
 

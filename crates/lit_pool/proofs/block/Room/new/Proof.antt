@@ -79,7 +79,7 @@ new_spec 𝓤 𝓛 𝓜 𝓡 wired A LA g dict drops met meets =
     let Y : Al = record { row = A; laws = LA; g = g; d = dict; drops = drops } in
     let fits : n < 2 ^ 64 = are.1.0.1 in
     let y : W.Ghost = ((κs, qs, bounds, a, (shr_vals a.0, (uint_vals w64 n, tt))), tt) in
-    let Asked : Type 0 = n < 2 ^ 32 in
+    let Asked : Type 0 = n < 2 ^ 40 in
     qed 𝓛 (((‵ (flft κ q) ⊛ ‵ (flft κ' q') ⊛ ‵ ftrue) ⊛ ‵ ((ShrRef (named 0) κ P).own_val a.0 (shr_vals a.0)) ⊛ ‵ (usize.own_val n (uint_vals w64 n)) ⊛ ‵ ftrue)
     ∷ (raw (fact 𝓤 (κ' ⊑ A.lives)) ⊛ raw (fact 𝓤 Asked)) ∷ []) ∵
     move ! (1 ∷ []) $ split ! $ heard ! (κ' ⊑ A.lives) (λ outlives. heard ! Asked (λ small.
