@@ -18,7 +18,7 @@ use Rattle.clause_store.specs.declared.table.Cell.{Cell}
 use Rattle.clause_store.specs.declared.rows.Noted.{Noted}
 use Rattle.clause_store.specs.declared.table.Table.{Table}
 use Rattle.clause_store.specs.declared.index.Pairs.{Pairs}
-use Rattle.clause_store.specs.Clauses.{Held, Place, Store, IsOnce, firsts, slot_at, lits_at, literals_at, new_clause, active_clause, is_active, is_held, is_weakened, IsFresh, IsStore, IsRestored, IsActiveWith, IsWeakenedWith}
+use Rattle.clause_store.specs.Clauses.{Held, Place, Store, IsOnce, firsts, slot_at, kept_at, lits_at, literals_at, new_clause, active_clause, is_active, is_held, is_weakened, IsFresh, IsStore, IsRestored, IsActiveWith, IsWeakenedWith}
 use Rattle.clause_store.specs.Index.{has_pair, key_of}
 use Rattle.clause_store.specs.Rows.{entry_of, place_of, held_of, store_of, row_if, listed, entries, dense_row, far_row, row, literals_in, IsRowWith, is_state, stands, row_slot, with_state, noted, kept_of, IsListed, SameListed, IsRow, ArePooled, AreRows, IsIndex, IsInside}
 use Rattle.clause_store.proofs.Lists.{set_of-firsts, once-firsts}
@@ -665,6 +665,11 @@ pub literals_here : (p : Entries) (es : Table) (m : Store) (id : ℕ) (k : Kept)
 literals_here p es m id k e v r g =
     ap (λ o. set_of (entry_of o).lits) (sym g) ∙ sym (ap (λ o. unwrap_or (option_map (λ k. set_of (entry_of (get p k.slot)).lits) o) []) r) ∙ sym (literals_at-row p es id) ∙ ap (λ z. literals_at z id) v
 
+-- the slot that keeps a row's clause
+pub kept_here : (p : Entries) (es : Table) (m : Store) (id : ℕ) (k : Kept) → store_of p es ≡ m → row es id ≡ Some k → k.slot ≡ kept_at m id
+kept_here p es m id k v r = sym (ap (λ o. unwrap_or (option_map (λ h. h.slot) (option_map (λ k. held_of (get p k.slot) k) o)) 0) r)
+    ∙ sym (ap (λ o. unwrap_or (option_map (λ h. h.slot) o) 0) (get-store_of p es id)) ∙ ap (λ z. kept_at z id) v
+
 pub is_off : (b : Bool) → is_state false b ≡ true → b ≡ false
 is_off true h = sym h
 is_off false h = refl
@@ -696,6 +701,7 @@ restored p es ids m id k e v h r off g n change =
     record {
       slot = k.slot;
       lits = e.lits;
+      same_slot = kept_here p es m id k v r;
       fresh = subst (λ z. IsFresh z k.slot) v (is_fresh p es ids id k h r off);
       once = subst (λ o. IsOnce (entry_of o).lits) g (h id k r).once;
       same_literals = set;

@@ -24,7 +24,7 @@ place_of e s = record { slot = s; lits = e.lits; one = e.one; two = e.two }
 
 -- a row as callers see it, with its entry in the pool
 abbrev pub held_of : Option Entry → Kept → Held
-held_of o k = record { literals = set_of (entry_of o).lits; place = (if k.active then Some (place_of (entry_of o) k.slot) else None) }
+held_of o k = record { literals = set_of (entry_of o).lits; slot = k.slot; place = (if k.active then Some (place_of (entry_of o) k.slot) else None) }
 
 -- the row that a cell of the dense part has
 abbrev pub kept_of : Cell → Option Kept

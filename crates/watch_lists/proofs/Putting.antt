@@ -3,12 +3,18 @@ use Rattle.std.proofs.Common.{◌≡◌, ℕ, ◌<◌, List, [], Option, Some, N
 use Rattle.std.specs.Prelude.{nat_lt, is_some, option_map, option_and_then, unwrap_or, Result, Ok, Err, IfOk, IfErr}
 use Rattle.std.specs.List.{list_all}
 use Rattle.lits.proofs.Members.{all_at, all_from, has_at, has_from}
+use Rattle.std.proofs.lemmas.Option.{none-some}
+use Rattle.watch_lists.specs.Watch.{node_at}
 use Rattle.std.proofs.lemmas.Bool.{ltb-true, lt-ltb, cases_Bool, both_ways, and_parts}
 use Rattle.std.specs.FinMap.{get, insert, remove}
 use Rattle.lits.specs.Clause.{has, set_of}
-use Rattle.clause_store.specs.Clauses.{Held, Store, IsOnce, IsFresh, IsRestored, slot_at, place_at, literals_at, is_held, is_active, is_weakened, firsts, active_clause, new_clause}
+use Rattle.clause_store.specs.Clauses.{Held, Store, IsOnce, IsFresh, IsRestored, slot_at, kept_at, clause_at, weakened_clause, place_at, literals_at, is_held, is_active, is_weakened, firsts, active_clause, new_clause}
 use Rattle.clause_store.proofs.Stored.{get_put, get_cut, same}
 use Rattle.clause_store.proofs.Lists.{set_of-firsts, once-firsts}
+
+-- the slot that keeps a clause, 0 for none
+abbrev slot_or : Option Held → ℕ
+slot_or o = unwrap_or (option_map (λ h. h.slot) o) 0
 
 pub ok_from : {X E : Type 0} (r : Result X E) (P : Type 0) (Q : E → Type 0) → IfOk r (λ _. P) → IfErr r Q → ((e : E) → Q e → ⊥) → P
 ok_from (Ok x) P Q p q f = p
@@ -27,6 +33,43 @@ literals-put m id h q = ap (λ o. unwrap_or (option_map (λ z. z.literals) o) []
     by_case : (b : Bool) → unwrap_or (option_map (λ z. z.literals) (cond b (Some h) (get m q))) [] ≡ cond b h.literals (literals_at m q)
     by_case true = refl
     by_case false = refl
+
+-- ---- The slots that keep the clauses
+
+-- where a clause is put whose slot has places, all have
+pub places-put : (m n : Store) (id : ℕ) (h : Held) (end : ℕ) → n ≡ insert m id h → node_at h.slot 1 < end → ((q : ℕ) → is_held m q ≡ true → node_at (kept_at m q) 1 < end) → (q : ℕ) → is_held n q ≡ true → node_at (kept_at n q) 1 < end
+places-put m n id h end is fits all q e =
+    let got : get n q ≡ cond (nat_eq id q) (Some h) (get m q) = ap (λ z. get z q) is ∙ get_put m id h q in
+    elim (cases_Bool (nat_eq id q)) [
+      | inl y ↦ let here : get n q ≡ Some h = got ∙ ap (λ b. cond b (Some h) (get m q)) y in
+          subst (λ s. node_at s 1 < end) (sym (ap slot_or here)) fits
+      | inr d ↦ let there : get n q ≡ get m q = got ∙ ap (λ b. cond b (Some h) (get m q)) d in
+          subst (λ s. node_at s 1 < end) (sym (ap slot_or there)) (all q (sym (ap is_some there) ∙ e))
+    ]
+
+-- where a clause is taken out, all others have places
+pub places-cut : (m n : Store) (id end : ℕ) → n ≡ remove m id → ((q : ℕ) → is_held m q ≡ true → node_at (kept_at m q) 1 < end) → (q : ℕ) → is_held n q ≡ true → node_at (kept_at n q) 1 < end
+places-cut m n id end is all q e =
+    let got : get n q ≡ cond (nat_eq id q) None (get m q) = ap (λ z. get z q) is ∙ get_cut m id q in
+    elim (cases_Bool (nat_eq id q)) [
+      | inl y ↦ absurd (both_ways _ (ap is_some (got ∙ ap (λ b. cond b None (get m q)) y)) e)
+      | inr d ↦ let there : get n q ≡ get m q = got ∙ ap (λ b. cond b None (get m q)) d in
+          subst (λ s. node_at s 1 < end) (sym (ap slot_or there)) (all q (sym (ap is_some there) ∙ e))
+    ]
+
+pub held-active : (m : Store) (id s : ℕ) → slot_at m id ≡ Some s → is_held m id ≡ true
+held-active m id s = by_case (get m id)
+  where
+    by_case : (o : Option Held) → option_map (λ p. p.slot) (option_and_then (λ h. h.place) o) ≡ Some s → is_some o ≡ true
+    by_case None e = absurd (none-some s e)
+    by_case (Some h) e = refl
+
+pub slot-of-clause : (m : Store) (id : ℕ) → (clause_at m id).slot ≡ kept_at m id
+slot-of-clause m id = by_case (get m id)
+  where
+    by_case : (o : Option Held) → (unwrap_or o (weakened_clause [] 0)).slot ≡ unwrap_or (option_map (λ h. h.slot) o) 0
+    by_case None = refl
+    by_case (Some h) = refl
 
 -- an active clause put at an id that isn't active
 pub record Puts (m n : Store) (id s : ℕ) (set ls : List ℕ) : Type 0 where

@@ -1,6 +1,6 @@
 -- No clause at all, and more variables reserved.
 use Rattle.std.proofs.Common.{◌≡◌, ℕ, suc, zero, ◌+◌, ◌-◌, ◌*◌, ◌<◌, List, [], ◌∷◌, ◌++◌, length, map, Some, None, refl, sym, ap, ◌∙◌, subst, arith, true, false}
-use Rattle.std.specs.Prelude.{replicate, option_map, option_and_then, unwrap_or}
+use Rattle.std.specs.Prelude.{replicate, is_some, option_map, option_and_then, unwrap_or}
 use Rattle.std.proofs.lemmas.Option.{none-some}
 use Rattle.std.proofs.lemmas.Bool.{both_ways}
 use Rattle.std.proofs.lemmas.List.{length-append, length-replicate}
@@ -43,6 +43,7 @@ kept_empty = record {
   blockers = λ l i lt. absurd (omega arith);
   reserved = λ q l h. absurd (empty-literals q l h);
   fits = λ q s e. absurd (empty-slot q s e);
+  keeps = λ q h. absurd (both_ways _ (ap is_some (no_clause q)) h);
   rooms = λ l. record { ids = []; each = λ q h. absurd (empty-literals q l h); few = omega arith };
 }
 

@@ -26,7 +26,7 @@ swap-literals m id a b q = ap (λ o. unwrap_or (option_map (λ h. h.literals) o)
   | inr n ↦ rw n refl
 ]
   where
-    held : (o : Option Held) → (unwrap_or o (weakened_clause [])).literals ≡ unwrap_or (option_map (λ h. h.literals) o) []
+    held : (o : Option Held) → (unwrap_or o (weakened_clause [] 0)).literals ≡ unwrap_or (option_map (λ h. h.literals) o) []
     held None = refl
     held (Some h) = refl
 
