@@ -51,11 +51,11 @@ impl Model for Store {
     ghost use Rattle.std.specs.Ordering.{nat_cmp};
     ghost use Rattle.std.specs.FinMap as finmap;
     ghost use Rattle.std.specs.Coded.{coded_ℕ};
-    ghost use Rattle.clause_store.specs.Clauses.{Held, held_code};
+    ghost use Rattle.clause_store.specs.Clauses.{ClauseEntry, clause_code};
 
-    ghost Value = { finmap.FinMap nat_cmp Held };
+    ghost Value = { finmap.FinMap nat_cmp ClauseEntry };
 
-    ghost coded = { finmap.code coded_ℕ held_code };
+    ghost coded = { finmap.code coded_ℕ clause_code };
 
     ghost use Rattle.clause_store.specs.Rows.{store_of, IsInside};
 

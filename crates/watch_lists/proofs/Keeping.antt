@@ -5,7 +5,7 @@ use Rattle.std.proofs.lemmas.Option.{same_Some, none-some}
 use Rattle.std.proofs.lemmas.Bool.{cases_Bool, both_ways, and_parts}
 use Rattle.std.specs.FinMap.{get, insert, remove}
 use Rattle.lits.specs.Clause.{has, set_of}
-use Rattle.clause_store.specs.Clauses.{Held, Store, IsOnce, IsStore, IsRestored, is_weakened, slot_at, kept_at, place_at, lits_at, literals_at, active_clause, weakened_clause}
+use Rattle.clause_store.specs.Clauses.{ClauseEntry, Store, IsOnce, IsStore, IsRestored, is_weakened, slot_at, kept_at, place_at, lits_at, literals_at, active_clause, weakened_clause}
 use Rattle.clause_store.proofs.Stored.{get_cut, set_of_set}
 use Rattle.watch_lists.specs.Watch.{node_at}
 use Rattle.watch_lists.specs.Watched.{entry_at}
@@ -179,7 +179,7 @@ beside-put m n id s set ls st p = record {
   slot = slot-put m n id s set ls p.is;
 }
 
-module _ (m n : Store) (id : ℕ) (h : Held) (is : n ≡ insert m id h) where
+module _ (m n : Store) (id : ℕ) (h : ClauseEntry) (is : n ≡ insert m id h) where
   pub put-here : (q : ℕ) → nat_eq id q ≡ true → literals_at n q ≡ h.literals
   put-here q y = ap (λ z. literals_at z q) is ∙ literals-put m id h q ∙ ap (λ c. cond c h.literals (literals_at m q)) y
 
