@@ -18,10 +18,10 @@ ties q = grind (arith, nat_tests)
 differs : (q k : ℕ) → q ≢ k → eq_by_cmp nat_cmp q k ≡ false
 differs q k ne = grind (arith, nat_tests)
 
-cases : (q i : ℕ) → (q ≡ i) ⊎ (q ≢ i)
+pub cases : (q i : ℕ) → (q ≡ i) ⊎ (q ≢ i)
 cases q i = grind arith
 
-three : (q s : ℕ) → (q < s) ⊎ ((q ≡ s) ⊎ (s < q))
+pub three : (q s : ℕ) → (q < s) ⊎ ((q ≡ s) ⊎ (s < q))
 three q s = grind arith
 
 same : (m n : Entries) → ((q : ℕ) → get m q ≡ get n q) → m ≡ n
@@ -130,7 +130,7 @@ words_from-same ws vs at (suc n) h =
     let others : words_from vs (suc at) n ≡ words_from ws (suc at) n = words_from-same ws vs (suc at) n (λ i low high. h i (omega arith) (omega arith)) in
     (λ i. first i ∷ others i)
 
-entry_same : (ws vs : List ℕ) (q : ℕ) → ((i : ℕ) → 8 * q ≤ i → i < 8 * q + 4 + len_in ws q → word vs i ≡ word ws i) → entry_in vs q ≡ entry_in ws q
+pub entry_same : (ws vs : List ℕ) (q : ℕ) → ((i : ℕ) → 8 * q ≤ i → i < 8 * q + 4 + len_in ws q → word vs i ≡ word ws i) → entry_in vs q ≡ entry_in ws q
 entry_same ws vs q h =
     let long : len_in vs q ≡ len_in ws q = h (8 * q + 1) (omega arith) (omega arith) in
     let one : word vs (8 * q + 2) ≡ word ws (8 * q + 2) = h (8 * q + 2) (omega arith) (omega arith) in
@@ -144,7 +144,7 @@ live_piece (Inside) live = cc
 live_piece (Freed) live = refl
 live_piece (Live) live = refl
 
-seen_by : (ws vs : List ℕ) (q : ℕ) (k : Kind) → (is_live k ≡ true → entry_in vs q ≡ entry_in ws q) → seen vs q k ≡ seen ws q k
+pub seen_by : (ws vs : List ℕ) (q : ℕ) (k : Kind) → (is_live k ≡ true → entry_in vs q ≡ entry_in ws q) → seen vs q k ≡ seen ws q k
 seen_by ws vs q (Inside) h = refl
 seen_by ws vs q (Freed) h = refl
 seen_by ws vs q (Live) h = ap Some (h refl)
@@ -199,10 +199,10 @@ are_again ws vs ks js pieces long many was room fits = record {
   few = λ s live. (fits s live).1;
 }
 
-kind_set : (ks : List Kind) (s : ℕ) (k : Kind) → s < length ks → kind_at (set ks s k) s ≡ k
+pub kind_set : (ks : List Kind) (s : ℕ) (k : Kind) → s < length ks → kind_at (set ks s k) s ≡ k
 kind_set ks s k lt = get_or-set_same ks s k Inside lt
 
-kind_other : (ks : List Kind) (s : ℕ) (k : Kind) (q : ℕ) → q ≢ s → kind_at (set ks s k) q ≡ kind_at ks q
+pub kind_other : (ks : List Kind) (s : ℕ) (k : Kind) (q : ℕ) → q ≢ s → kind_at (set ks s k) q ≡ kind_at ks q
 kind_other ks s k q ne = get_or-set_other ks s q k Inside ne
 
 -- Maps that differ at one slot alone, or nowhere.
@@ -223,7 +223,7 @@ removed ws vs ks js s is others = same _ _ (λ q.
       | inr apart ↦ rw (others q apart, get-remove nat_cmp_total, differs q s apart) (sym (get_live ws ks q))
     ])
 
-unchanged : (ws vs : List ℕ) (ks js : List Kind) → ((q : ℕ) → seen vs q (kind_at js q) ≡ seen ws q (kind_at ks q)) → live_pieces vs js ≡ live_pieces ws ks
+pub unchanged : (ws vs : List ℕ) (ks js : List Kind) → ((q : ℕ) → seen vs q (kind_at js q) ≡ seen ws q (kind_at ks q)) → live_pieces vs js ≡ live_pieces ws ks
 unchanged ws vs ks js all = same _ _ (λ q. get_live vs js q ∙ all q ∙ sym (get_live ws ks q))
 
 -- the piece of a slot, by its kind

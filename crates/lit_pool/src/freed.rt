@@ -12,8 +12,8 @@ use crate::Slot;
 // How many sizes there are; the greatest is that of the longest list.
 const SIZES: usize = 34;
 
-// The greatest number of units that a new piece has.
-const MOST_UNITS: usize = 536_870_912;
+/// The greatest number of units of a piece.
+pub(crate) const MOST_UNITS: usize = 536_870_912;
 
 /// A size of pieces, and how many units it has.
 #[derive(Clone, Copy)]

@@ -1,8 +1,17 @@
 //! Lists of literals with two links each, named by slots. A clause store keeps its clauses in one pool. The links are for lists
-//! of entries that callers thread through them; the pool threads its freed entries so. Contracts see a finite map from each
+//! of entries that callers thread through them; the pool threads its freed pieces so. Contracts see a finite map from each
 //! live slot to its entry, so each call says in one equation what becomes of one entry and that all others stay.
 //!
-//! All entries lie in one table of words in raw memory, and a slot says where its entry begins there.
+//! All entries lie in one table of words, as the clauses of MiniSat do (N. Eén and N. Sörensson, version 2.2, 2010), and a slot
+//! of 32 bits says where its entry begins there. So a visit of a clause reads its length, its links and its first literals in
+//! one line of the processor's cache. With a vector of its own for each clause, a name would take twice the bits, a short
+//! clause twice the memory, and each visit would wait for memory twice.
+//!
+//! An entry never moves while it is live, so its slot stays its name. What is freed is a piece of the table, and serves later
+//! entries: pieces are listed by their sizes, one of a greater size is split where none of the due size is free, and pieces
+//! that lie side by side are joined before the table would grow (a survey of such schemes is P. R. Wilson's and others', 1995).
+//! Without the sizes an entry would look for its piece; without the splitting and joining, a pool that lost most of its entries
+//! would take new memory for those of other lengths.
 #![tactic(auto)]
 
 ghost use Rattle.std.specs.Prelude.{◌≡◌, ◌+◌, ◌*◌, ◌^◌, ◌<◌, ◌≤◌, [], ◌∷◌, length, swap, slice_index, IfOk, IfSome, IfNone, OnErr, IsTrue, ◌↔◌, Some, None, true, false};
@@ -25,6 +34,7 @@ mod words;
 
 use crate::freed::{Freed, Size, size_for, size_within};
 use crate::kind::Kind;
+use crate::piece::UNIT;
 use crate::words::Words;
 use lits::Lit;
 use std::alloc::{AllocError, Global};
@@ -88,6 +98,8 @@ pub struct Pool {
     words: Words,
     kinds: Vec<Kind>,
     freed: Freed,
+    // how many units were freed since pieces were joined
+    loose: usize,
     live: u64,
 }
 
@@ -117,6 +129,7 @@ impl Pool {
             words: Words::new(alloc),
             kinds: Vec::new(alloc),
             freed: Freed::new(),
+            loose: 0,
             live: 0,
         }
     }
@@ -146,10 +159,16 @@ impl Pool {
             return Err(AllocError);
         }
         let size = size_for(lits.len());
-        match self.reuse(size, lits) {
-            Some(s) => Ok(s),
-            None => self.push(size.units, lits),
+        if let Some(s) = self.reuse(size, lits) {
+            return Ok(s);
         }
+        if self.is_worth_joining(size.units) {
+            self.join();
+            if let Some(s) = self.reuse(size, lits) {
+                return Ok(s);
+            }
+        }
+        self.push(size.units, lits)
     }
 
     /// The literals of a live entry in their order.
@@ -215,10 +234,28 @@ impl Pool {
         requires live { IsLive self.old s }
         ensures { self.new ≡ map.remove self.old s }
     {
-        let size = size_within(piece::units(&self.words, s));
+        let units = piece::units(&self.words, s);
+        let size = size_within(units);
         pieces::vacate(&mut self.words, &mut self.kinds, s, self.freed.last(size));
         self.freed.set_last(size, Some(s));
+        self.loose = self.loose.saturating_add(units);
         self.live -= 1;
+    }
+
+    /// Whether the words would be moved for so many units more, and half of the units were freed since pieces were joined. So
+    /// the joining takes no more time than the frees before it did.
+    fn is_worth_joining(&self, units: usize) -> bool {
+        let count = self.kinds.len();
+        let end = count.saturating_add(units).saturating_mul(UNIT);
+        self.loose >= count / 2 && !self.words.has_places(end)
+    }
+
+    /// Joins the freed pieces that lie side by side.
+    fn join(&mut self)
+        ensures { self.new ≡ self.old }
+    {
+        pieces::join_all(&mut self.words, &mut self.kinds, &mut self.freed);
+        self.loose = 0;
     }
 
     /// Puts an entry into a freed piece: the one that was freed last among those of this size, or of the next greater size

@@ -113,8 +113,7 @@ pub(crate) fn at(words: &Words, s: Slot, i: usize) -> Lit
     requires place { i < len_in words.now s }
     ensures { result ≡ slice_index (entry_in words.now s).lits i }
 {
-    // So the place is known to be a number of the machine.
-    let _ = words.len();
+    words.recall_limit();
     words.at(base(s) + HEAD + i)
 }
 
@@ -158,8 +157,7 @@ pub(crate) fn swap(words: &mut Words, s: Slot, a: usize, b: usize)
     ensures within { IsWithin s words.old words.new }
     ensures entry { entry_in words.new s ≡ record (entry_in words.old s) { lits = swap (entry_in words.old s).lits a b } }
 {
-    // So the places are known to be numbers of the machine.
-    let _ = words.len();
+    words.recall_limit();
     let at = base(s) + HEAD;
     let x = words.at(at + a);
     let y = words.at(at + b);

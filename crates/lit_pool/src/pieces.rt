@@ -8,7 +8,7 @@ ghost use Rattle.lit_pool.specs.Pieces.{ArePieces, live_pieces, kind_at, room_in
 ghost use Rattle.lit_pool.specs.Pieces as pieces;
 ghost use Rattle.lit_pool.specs.declared.kind.Kind.TheVariants.{Freed};
 
-use crate::freed::{Freed as Lists, size_within};
+use crate::freed::{Freed as Lists, MOST_UNITS, size_within};
 use crate::kind::Kind;
 use crate::piece::{self, UNIT};
 use crate::words::Words;
@@ -135,6 +135,78 @@ pub(crate) fn trim(
         let rest = split(words, kinds, s, units);
         chain(words, kinds, rest, freed.last(size));
         freed.set_last(size, Some(rest));
+    }
+}
+
+/// Joins a piece without an entry with the one that follows it, if that has none either. Tells whether it did.
+fn join_next(words: &mut Words, kinds: &mut Vec<Kind>, s: Slot) -> bool
+    requires pieces { ArePieces words.old kinds.old.items }
+    requires freed { kind_at kinds.old.items s ≡ Freed }
+    ensures pieces { ArePieces words.new kinds.new.items }
+    ensures same { live_pieces words.new kinds.new.items ≡ live_pieces words.old kinds.old.items }
+    ensures freed { kind_at kinds.new.items s ≡ Freed }
+    ensures more { IsTrue result → room_in words.old s < room_in words.new s }
+{
+    let units = piece::units(words, s);
+    let next = s.number as usize + units;
+    if units == 0 || next >= SLOTS_END as usize {
+        return false;
+    }
+    let next = Slot {
+        number: next as u32,
+    };
+    if !has_units(words, kinds, next, 1) {
+        return false;
+    }
+    let both = units + piece::units(words, next);
+    if both > MOST_UNITS {
+        return false;
+    }
+    piece::set_units(words, s, both);
+    kinds[next.number as usize] = Kind::Inside;
+    true
+}
+
+/// Joins a piece without an entry with all that follow it up to the next entry.
+fn join_from(words: &mut Words, kinds: &mut Vec<Kind>, s: Slot)
+    requires pieces { ArePieces words.old kinds.old.items }
+    requires freed { kind_at kinds.old.items s ≡ Freed }
+    ensures pieces { ArePieces words.new kinds.new.items }
+    ensures same { live_pieces words.new kinds.new.items ≡ live_pieces words.old kinds.old.items }
+    ensures freed { kind_at kinds.new.items s ≡ Freed }
+{
+    for _ in 0..kinds.len() {
+        if !join_next(words, kinds, s) {
+            return;
+        }
+    }
+}
+
+/// Lists a piece without an entry as freed, with the units of those that follow it.
+fn gather(words: &mut Words, kinds: &mut Vec<Kind>, freed: &mut Lists, s: Slot)
+    requires pieces { ArePieces words.old kinds.old.items }
+    requires freed { kind_at kinds.old.items s ≡ Freed }
+    ensures pieces { ArePieces words.new kinds.new.items }
+    ensures same { live_pieces words.new kinds.new.items ≡ live_pieces words.old kinds.old.items }
+{
+    join_from(words, kinds, s);
+    let size = size_within(piece::units(words, s));
+    chain(words, kinds, s, freed.last(size));
+    freed.set_last(size, Some(s));
+}
+
+/// Joins pieces without an entry that lie side by side, and lists those that there are then.
+pub(crate) fn join_all(words: &mut Words, kinds: &mut Vec<Kind>, freed: &mut Lists)
+    requires pieces { ArePieces words.old kinds.old.items }
+    ensures pieces { ArePieces words.new kinds.new.items }
+    ensures same { live_pieces words.new kinds.new.items ≡ live_pieces words.old kinds.old.items }
+{
+    *freed = Lists::new();
+    for at in 0..kinds.len().min(SLOTS_END as usize) {
+        let s = Slot { number: at as u32 };
+        if has_units(words, kinds, s, 0) {
+            gather(words, kinds, freed, s);
+        }
     }
 }
 

@@ -116,6 +116,27 @@ fn a_freed_piece_serves_a_later_entry(rt: HostRuntime) -> Result<(), Fail> {
     Ok(())
 }
 
+#[test]
+fn freed_pieces_side_by_side_serve_a_long_entry(rt: HostRuntime) -> Result<(), Fail> {
+    let alloc = rt.alloc();
+    let mut pool = Pool::new(alloc);
+    let one = many(alloc, 1)?;
+    let mut slots = Vec::new(alloc);
+    for _ in 0..128 {
+        slots.push(pool.add(&one)?)?;
+    }
+    for s in &slots {
+        assert!(rt; pool.is_live(*s));
+        pool.free(*s);
+    }
+    // the first block has places for 128 units, and each of them is a freed piece of its own
+    let long = many(alloc, 900)?;
+    let s = pool.add(&long)?;
+    assert!(rt; pool.lits(s) == long.as_slice());
+    assert_eq!(rt; pool.kinds.len(), 128);
+    Ok(())
+}
+
 /// The next of a row of numbers that look like chance (D. H. Lehmer, 1949, with the numbers of D. E. Knuth).
 fn next(state: &mut u64) -> usize {
     *state = state

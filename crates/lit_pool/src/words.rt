@@ -79,6 +79,14 @@ impl Words {
         self.used
     }
 
+    /// Recalls that the places are numbers of the machine. It does nothing.
+    #[inline(always)]
+    pub(crate) fn recall_limit(&self)
+        ensures { length self.now < 2 ^ 64 }
+    {
+        let _used = self.used;
+    }
+
     /// The word at a place.
     #[inline(always)]
     pub(crate) fn at(&self, i: usize) -> Lit
@@ -110,6 +118,11 @@ impl Words {
         ensures { result.now ≡ slice_range self.now from (from + count) }
     {
         &self.all()[from..from + count]
+    }
+
+    /// Whether the block has places for so many words.
+    pub(crate) fn has_places(&self, end: usize) -> bool {
+        end <= Words::places(&self.held)
     }
 
     /// Makes the table so long, where it is shorter, by words of the default literal. Where memory is wanting it stays.
