@@ -66,13 +66,13 @@ module _ {indexed : Bool} (p : Entries) (es : Table) (ids : List Noted) (id s : 
   entry-here = ap (get (insert p s e)) here.slot ∙ get_insert_same p s e
 
   clause-here : clause_at (store_of p es) id ≡ held_of (get p s) here.k
-  clause-here = ap (λ o. unwrap_or o (weakened_clause [])) (get-store_of p es id ∙ ap (option_map (λ k. held_of (get p k.slot) k)) here.is) ∙ ap (λ z. held_of (get p z) here.k) here.slot
+  clause-here = ap (λ o. unwrap_or o (weakened_clause [] 0)) (get-store_of p es id ∙ ap (option_map (λ k. held_of (get p k.slot) k)) here.is) ∙ ap (λ z. held_of (get p z) here.k) here.slot
 
   held-here : held_of (Some e) here.k ≡ with_place f (held_of (get p s) here.k)
   held-here = joined here.k here.slot here.on
     where
       joined : (k : Kept) → k.slot ≡ s → k.active ≡ true → held_of (Some e) k ≡ with_place f (held_of (get p s) k)
-      joined k same on = rw (on, same) (λ i. record { literals = h.same_set i; place = Some (h.shape i) })
+      joined k same on = rw (on, same) (λ i. record { literals = h.same_set i; slot = s; place = Some (h.shape i) })
 
   pub store-changed : store_of (insert p s e) es ≡ insert (store_of p es) id (with_place f (clause_at (store_of p es) id))
   store-changed = store_put p (insert p s e) es es id here.k (with_place f (clause_at (store_of p es) id)) same_rows others

@@ -18,7 +18,7 @@ use Rattle.clause_store.specs.declared.table.Cell.{Cell}
 use Rattle.clause_store.specs.declared.rows.Noted.{Noted}
 use Rattle.clause_store.specs.declared.table.Table.{Table}
 use Rattle.clause_store.specs.declared.index.Pairs.{Pairs}
-use Rattle.clause_store.specs.Clauses.{Held, Place, Store, IsOnce, firsts, slot_at, lits_at, literals_at, new_clause, active_clause, is_active, is_held, is_weakened, IsFresh, IsStore, IsRestored, IsActiveWith, IsWeakenedWith}
+use Rattle.clause_store.specs.Clauses.{ClauseEntry, Place, Store, IsOnce, firsts, slot_at, kept_at, lits_at, literals_at, new_clause, active_clause, is_active, is_held, is_weakened, IsFresh, IsStore, IsRestored, IsActiveWith, IsWeakenedWith}
 use Rattle.clause_store.specs.Index.{has_pair, key_of}
 use Rattle.clause_store.specs.Rows.{entry_of, place_of, held_of, store_of, row_if, listed, entries, dense_row, far_row, row, literals_in, IsRowWith, is_state, stands, row_slot, with_state, noted, kept_of, IsListed, SameListed, IsRow, ArePooled, AreRows, IsIndex, IsInside}
 use Rattle.clause_store.proofs.Lists.{set_of-firsts, once-firsts}
@@ -83,7 +83,7 @@ store_of-nil pool t none = same _ _ (λ q. get-store_of pool t q ∙ ap (option_
 ids_apart : (a b : ℕ) → nat_eq a b ≡ false → nat_eq b a ≡ false
 ids_apart a b h = grind (arith, nat_tests)
 
-pub get_put : (m : Store) (id : ℕ) (h : Held) (q : ℕ) → get (insert m id h) q ≡ cond (nat_eq id q) (Some h) (get m q)
+pub get_put : (m : Store) (id : ℕ) (h : ClauseEntry) (q : ℕ) → get (insert m id h) q ≡ cond (nat_eq id q) (Some h) (get m q)
 get_put m id h q = get-insert nat_cmp_total m id h q ∙ ap (λ b. cond b (Some h) (get m q)) (unsigned_tied q id ∙ flip q id)
   where
     flip : (q id : ℕ) → nat_eq q id ≡ nat_eq id q
@@ -96,7 +96,7 @@ get_cut m id q = get-remove nat_cmp_total m id q ∙ ap (λ b. cond b None (get 
     flip q id = grind (arith, nat_tests)
 
 -- one row put, where the entries of the others stay
-pub store_put : (p p' : Entries) (es es' : Table) (id : ℕ) (k : Kept) (h : Held)
+pub store_put : (p p' : Entries) (es es' : Table) (id : ℕ) (k : Kept) (h : ClauseEntry)
     → ((q : ℕ) → row es' q ≡ cond (nat_eq id q) (Some k) (row es q))
     → ((q : ℕ) (r : Kept) → nat_eq id q ≡ false → row es q ≡ Some r → get p' r.slot ≡ get p r.slot)
     → held_of (get p' k.slot) k ≡ h
@@ -368,7 +368,7 @@ is_store p es ids h = record { slots_apart = apart; same_literals = lists; sets 
           | inr n ↦ absurd (slots_differ p es ids a b x.k y.k h n x.is y.is (x.slot ∙ sym y.slot))
         ]
 
-    listed : (o : Option Kept) (c : Held) (z : Place) → ((k : Kept) → o ≡ Some k → IsOnce (entry_of (get p k.slot)).lits) → option_map (λ k. held_of (get p k.slot) k) o ≡ Some c → c.place ≡ Some z → (set_of z.lits ≡ c.literals) × IsOnce z.lits
+    listed : (o : Option Kept) (c : ClauseEntry) (z : Place) → ((k : Kept) → o ≡ Some k → IsOnce (entry_of (get p k.slot)).lits) → option_map (λ k. held_of (get p k.slot) k) o ≡ Some c → c.place ≡ Some z → (set_of z.lits ≡ c.literals) × IsOnce z.lits
     listed None c z once e f = absurd (none-some c e)
     listed (Some k) c z once e f =
         let here : held_of (get p k.slot) k ≡ c = same_Some _ c e in
@@ -380,14 +380,14 @@ is_store p es ids h = record { slots_apart = apart; same_literals = lists; sets 
           | inr n ↦ let none : None ≡ Some z = rw n at g in absurd (none-some z none)
         ]
 
-    lists : (id : ℕ) (c : Held) (z : Place) → get (store_of p es) id ≡ Some c → c.place ≡ Some z → (set_of z.lits ≡ c.literals) × IsOnce z.lits
+    lists : (id : ℕ) (c : ClauseEntry) (z : Place) → get (store_of p es) id ≡ Some c → c.place ≡ Some z → (set_of z.lits ≡ c.literals) × IsOnce z.lits
     lists id c z e f = listed (row es id) c z (λ k r. (h id k r).once) (sym (get-store_of p es id) ∙ e) f
 
-    ascending : (o : Option Kept) (c : Held) → option_map (λ k. held_of (get p k.slot) k) o ≡ Some c → set_of c.literals ≡ c.literals
+    ascending : (o : Option Kept) (c : ClauseEntry) → option_map (λ k. held_of (get p k.slot) k) o ≡ Some c → set_of c.literals ≡ c.literals
     ascending None c e = absurd (none-some c e)
     ascending (Some k) c e = let here : held_of (get p k.slot) k ≡ c = same_Some _ c e in subst (λ w. set_of w.literals ≡ w.literals) here (set_of_set (entry_of (get p k.slot)).lits)
 
-    sets : (id : ℕ) (c : Held) → get (store_of p es) id ≡ Some c → set_of c.literals ≡ c.literals
+    sets : (id : ℕ) (c : ClauseEntry) → get (store_of p es) id ≡ Some c → set_of c.literals ≡ c.literals
     sets id c e = ascending (row es id) c (sym (get-store_of p es id) ∙ e)
 
 -- ---- Ids by set
@@ -566,7 +566,7 @@ module _ {indexed : Bool} (p p' : Entries) (es es' : Table) (from from' to to' :
   rows-switched : (q : ℕ) → row es' q ≡ cond (nat_eq id q) (Some (with_state b k)) (row es q)
   rows-switched = switched b es es' id k h.here h.rows
 
-  pub store-switched : (c : Held) → held_of (Some e) (with_state b k) ≡ c → store_of p' es' ≡ insert (store_of p es) id c
+  pub store-switched : (c : ClauseEntry) → held_of (Some e) (with_state b k) ≡ c → store_of p' es' ≡ insert (store_of p es) id c
   store-switched c f = store_put p p' es es' id (with_state b k) c rows-switched entries-switched (ap (λ o. held_of o (with_state b k)) here ∙ f)
 
   pub all-switched : AreRows indexed p' ids es'
@@ -665,6 +665,11 @@ pub literals_here : (p : Entries) (es : Table) (m : Store) (id : ℕ) (k : Kept)
 literals_here p es m id k e v r g =
     ap (λ o. set_of (entry_of o).lits) (sym g) ∙ sym (ap (λ o. unwrap_or (option_map (λ k. set_of (entry_of (get p k.slot)).lits) o) []) r) ∙ sym (literals_at-row p es id) ∙ ap (λ z. literals_at z id) v
 
+-- the slot that keeps a row's clause
+pub kept_here : (p : Entries) (es : Table) (m : Store) (id : ℕ) (k : Kept) → store_of p es ≡ m → row es id ≡ Some k → k.slot ≡ kept_at m id
+kept_here p es m id k v r = sym (ap (λ o. unwrap_or (option_map (λ h. h.slot) (option_map (λ k. held_of (get p k.slot) k) o)) 0) r)
+    ∙ sym (ap (λ o. unwrap_or (option_map (λ h. h.slot) o) 0) (get-store_of p es id)) ∙ ap (λ z. kept_at z id) v
+
 pub is_off : (b : Bool) → is_state false b ≡ true → b ≡ false
 is_off true h = sym h
 is_off false h = refl
@@ -690,12 +695,13 @@ is_fresh p es ids id k h r off q e =
     ]
 
 pub restored : {indexed : Bool} (p : Entries) (es : Table) (ids : List Noted) (m : Store) (id : ℕ) (k : Kept) (e : Entry) → store_of p es ≡ m → AreRows indexed p ids es → row es id ≡ Some k → is_state false k.active ≡ true → get p k.slot ≡ Some e
-    → (n : Store) → ((c : Held) → held_of (Some (record { lits = e.lits; one = None; two = None })) (with_state true k) ≡ c → n ≡ insert (store_of p es) id c) → IsRestored m id n
+    → (n : Store) → ((c : ClauseEntry) → held_of (Some (record { lits = e.lits; one = None; two = None })) (with_state true k) ≡ c → n ≡ insert (store_of p es) id c) → IsRestored m id n
 restored p es ids m id k e v h r off g n change =
     let set : set_of e.lits ≡ literals_at m id = literals_here p es m id k e v r g in
     record {
       slot = k.slot;
       lits = e.lits;
+      same_slot = kept_here p es m id k v r;
       fresh = subst (λ z. IsFresh z k.slot) v (is_fresh p es ids id k h r off);
       once = subst (λ o. IsOnce (entry_of o).lits) g (h id k r).once;
       same_literals = set;

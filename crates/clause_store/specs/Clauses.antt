@@ -14,9 +14,11 @@ pub record Place : Type 0 where
   pub one : Option ℕ
   pub two : Option ℕ
 
--- a clause: its literal set as the ascending list, and its place, which it has where it is active; without one it is weakened
-pub record Held : Type 0 where
+-- a clause: its literal set as the ascending list, the slot that keeps it, and its place, which it has where it is active;
+-- without one it is weakened
+pub record ClauseEntry : Type 0 where
   pub literals : List ℕ
+  pub slot : ℕ
   pub place : Option Place
 
 -- a place is stored as its parts
@@ -26,14 +28,14 @@ place_code =
     (λ e. (e.slot, (e.lits, (e.one, e.two)))) (λ p. record { slot = p.0; lits = p.1.0; one = p.1.1.0; two = p.1.1.1 }) (λ _. refl)
 
 -- a clause is stored as its parts
-abbrev pub held_code : Coded Held
-held_code =
-    code_by (List ℕ × Option Place) (coded× (coded_list coded_ℕ) (coded_option place_code))
-    (λ e. (e.literals, e.place)) (λ p. record { literals = p.0; place = p.1 }) (λ _. refl)
+abbrev pub clause_code : Coded ClauseEntry
+clause_code =
+    code_by (List ℕ × (ℕ × Option Place)) (coded× (coded_list coded_ℕ) (coded× coded_ℕ (coded_option place_code)))
+    (λ e. (e.literals, (e.slot, e.place))) (λ p. record { literals = p.0; slot = p.1.0; place = p.1.1 }) (λ _. refl)
 
 -- the clauses by id
 abbrev pub Store : Type 0
-Store = finmap.FinMap nat_cmp Held
+Store = finmap.FinMap nat_cmp ClauseEntry
 
 -- the place of an active clause
 abbrev pub place_at : Store → ℕ → Option Place
@@ -42,6 +44,10 @@ place_at m id = option_and_then (λ h. h.place) (finmap.get m id)
 -- the slot of an active clause
 abbrev pub slot_at : Store → ℕ → Option ℕ
 slot_at m id = option_map (λ p. p.slot) (place_at m id)
+
+-- the slot that keeps a clause, active or weakened, 0 where the id is free
+abbrev pub kept_at : Store → ℕ → ℕ
+kept_at m id = unwrap_or (option_map (λ h. h.slot) (finmap.get m id)) 0
 
 -- whether the id is that of an active clause
 abbrev pub is_active : Store → ℕ → Bool
@@ -90,20 +96,20 @@ abbrev pub literals_at : Store → ℕ → List ℕ
 literals_at m id = unwrap_or (option_map (λ h. h.literals) (finmap.get m id)) []
 
 -- an active clause of this set and list, with no links
-abbrev pub active_clause : List ℕ → List ℕ → ℕ → Held
-active_clause set ls s = record { literals = set; place = Some (record { slot = s; lits = ls; one = None; two = None }) }
+abbrev pub active_clause : List ℕ → List ℕ → ℕ → ClauseEntry
+active_clause set ls s = record { literals = set; slot = s; place = Some (record { slot = s; lits = ls; one = None; two = None }) }
 
 -- an active clause of these literals, as `add` makes it
-abbrev pub new_clause : List ℕ → ℕ → Held
+abbrev pub new_clause : List ℕ → ℕ → ClauseEntry
 new_clause ls s = active_clause (set_of ls) (firsts ls) s
 
--- a weakened clause of this set
-abbrev pub weakened_clause : List ℕ → Held
-weakened_clause set = record { literals = set; place = None }
+-- a weakened clause of this set, which is kept at this slot
+abbrev pub weakened_clause : List ℕ → ℕ → ClauseEntry
+weakened_clause set s = record { literals = set; slot = s; place = None }
 
 -- the clause of an id, an empty weakened one where the id is free
-abbrev pub clause_at : Store → ℕ → Held
-clause_at m id = unwrap_or (finmap.get m id) (weakened_clause [])
+abbrev pub clause_at : Store → ℕ → ClauseEntry
+clause_at m id = unwrap_or (finmap.get m id) (weakened_clause [] 0)
 
 -- a link of a place
 abbrev pub place_link : Which → Place → Option ℕ
@@ -124,8 +130,8 @@ abbrev pub swapped : ℕ → ℕ → Place → Place
 swapped a b p = record { slot = p.slot; lits = swap p.lits a b; one = p.one; two = p.two }
 
 -- a clause with its place changed, if it has one
-abbrev pub with_place : (Place → Place) → Held → Held
-with_place f h = record { literals = h.literals; place = option_map f h.place }
+abbrev pub with_place : (Place → Place) → ClauseEntry → ClauseEntry
+with_place f h = record { literals = h.literals; slot = h.slot; place = option_map f h.place }
 
 -- the clauses with two literals of one's list exchanged
 abbrev pub with_swap : Store → ℕ → ℕ → ℕ → Store
@@ -135,10 +141,12 @@ with_swap m id a b = finmap.insert m id (with_place (swapped a b) (clause_at m i
 abbrev pub with_link : Store → ℕ → Which → Option ℕ → Store
 with_link m id which to = finmap.insert m id (with_place (relinked which to) (clause_at m id))
 
--- the weakened clause is active again, at a slot that no active clause had, with each of its literals once and no links
+-- the weakened clause is active again, at the slot that kept it and no active clause had, with each of its literals once and no
+-- links
 pub record IsRestored (old : Store) (id : ℕ) (new : Store) : Type 0 where
   pub slot : ℕ
   pub lits : List ℕ
+  pub same_slot : slot ≡ kept_at old id
   pub fresh : IsFresh old slot
   pub once : IsOnce lits
   pub same_literals : set_of lits ≡ literals_at old id
@@ -157,6 +165,6 @@ pub record IsStore (m : Store) : Type 0 where
   -- two active clauses have different slots
   pub slots_apart : (a b s : ℕ) → slot_at m a ≡ Some s → slot_at m b ≡ Some s → a ≡ b
   -- the list of an active clause has the literals of its set, each once
-  pub same_literals : (id : ℕ) (h : Held) (p : Place) → finmap.get m id ≡ Some h → h.place ≡ Some p → (set_of p.lits ≡ h.literals) × IsOnce p.lits
+  pub same_literals : (id : ℕ) (h : ClauseEntry) (p : Place) → finmap.get m id ≡ Some h → h.place ≡ Some p → (set_of p.lits ≡ h.literals) × IsOnce p.lits
   -- the set of a clause is the ascending list
-  pub sets : (id : ℕ) (h : Held) → finmap.get m id ≡ Some h → set_of h.literals ≡ h.literals
+  pub sets : (id : ℕ) (h : ClauseEntry) → finmap.get m id ≡ Some h → set_of h.literals ≡ h.literals

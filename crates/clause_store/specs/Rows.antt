@@ -10,7 +10,7 @@ use Rattle.clause_store.specs.declared.table.Cell.{Cell}
 use Rattle.clause_store.specs.declared.table.Cell.TheVariants.{Free, Active, Weakened}
 use Rattle.clause_store.specs.declared.rows.Noted.{Noted}
 use Rattle.clause_store.specs.declared.table.Table.{Table}
-use Rattle.clause_store.specs.Clauses.{Held, Place, Store, IsOnce}
+use Rattle.clause_store.specs.Clauses.{ClauseEntry, Place, Store, IsOnce}
 use Rattle.clause_store.specs.declared.index.Pairs.{Pairs}
 use Rattle.clause_store.specs.Index.{has_pair, key_of}
 
@@ -23,8 +23,8 @@ abbrev pub place_of : Entry → ℕ → Place
 place_of e s = record { slot = s; lits = e.lits; one = e.one; two = e.two }
 
 -- a row as callers see it, with its entry in the pool
-abbrev pub held_of : Option Entry → Kept → Held
-held_of o k = record { literals = set_of (entry_of o).lits; place = (if k.active then Some (place_of (entry_of o) k.slot) else None) }
+abbrev pub held_of : Option Entry → Kept → ClauseEntry
+held_of o k = record { literals = set_of (entry_of o).lits; slot = k.slot; place = (if k.active then Some (place_of (entry_of o) k.slot) else None) }
 
 -- the row that a cell of the dense part has
 abbrev pub kept_of : Cell → Option Kept

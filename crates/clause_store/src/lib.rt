@@ -6,7 +6,7 @@
 
 ghost use Rattle.std.specs.Prelude.{◌≡◌, ℕ, ◌<◌, ◌≤◌, List, length, slice_index, OnOk, IfOk, IfErr, IfSome, IfNone, IsTrue, true, false, Some, None};
 ghost use Rattle.std.specs.FinMap as finmap;
-ghost use Rattle.clause_store.specs.Clauses.{slot_at, lits_at, is_active, is_weakened, is_held, IsSlot, IsFresh, IsActiveWith, IsWeakenedWith, IsRestored, literals_at, link_at, new_clause, weakened_clause, with_link, with_swap, IsStore};
+ghost use Rattle.clause_store.specs.Clauses.{slot_at, lits_at, is_active, is_weakened, is_held, IsSlot, IsFresh, IsActiveWith, IsWeakenedWith, IsRestored, literals_at, kept_at, link_at, new_clause, weakened_clause, with_link, with_swap, IsStore};
 ghost use Rattle.clause_store.specs.declared.StoreFault.TheVariants as fault;
 
 use lit_pool::Pool;
@@ -51,11 +51,11 @@ impl Model for Store {
     ghost use Rattle.std.specs.Ordering.{nat_cmp};
     ghost use Rattle.std.specs.FinMap as finmap;
     ghost use Rattle.std.specs.Coded.{coded_ℕ};
-    ghost use Rattle.clause_store.specs.Clauses.{Held, held_code};
+    ghost use Rattle.clause_store.specs.Clauses.{ClauseEntry, clause_code};
 
-    ghost Value = { finmap.FinMap nat_cmp Held };
+    ghost Value = { finmap.FinMap nat_cmp ClauseEntry };
 
-    ghost coded = { finmap.code coded_ℕ held_code };
+    ghost coded = { finmap.code coded_ℕ clause_code };
 
     ghost use Rattle.clause_store.specs.Rows.{store_of, IsInside};
 
@@ -155,7 +155,7 @@ impl Store {
     /// Makes an active clause a weakened one. NotActive comes exactly where the id isn't active; the store stays after each
     /// refusal.
     pub fn weaken(&mut self, id: u64) -> Result<(), StoreFault>
-        ensures ok { IfOk result (λ _. self.new ≡ finmap.insert self.old id (weakened_clause (literals_at self.old id))) }
+        ensures ok { IfOk result (λ _. self.new ≡ finmap.insert self.old id (weakened_clause (literals_at self.old id) (kept_at self.old id))) }
         ensures active { IfOk result (λ _. IsTrue (is_active self.old id)) }
         ensures err { IfErr result (λ _. self.new ≡ self.old) }
         ensures inactive { IfErr result (λ e. is_active self.old id ≡ false → e ≡ fault.NotActive) }
@@ -181,7 +181,7 @@ impl Store {
         Ok(())
     }
 
-    /// Makes a weakened clause an active one with no links, at a slot that no active clause has. NotWeakened comes exactly
+    /// Makes a weakened clause an active one with no links, at the slot that kept it and no active clause has. NotWeakened comes exactly
     /// where the id isn't weakened; the store stays after each refusal.
     pub fn restore(&mut self, id: u64) -> Result<(), StoreFault>
         ensures ok { IfOk result (λ _. IsRestored self.old id self.new) }
@@ -190,25 +190,9 @@ impl Store {
         ensures held { IfErr result (λ e. is_weakened self.old id ≡ false → e ≡ fault.NotWeakened) }
         ensures memory { IfErr result (λ e. IsTrue (is_weakened self.old id) → e ≡ fault.Memory) }
     {
-        self.restore_below(id, u64::MAX)
-    }
-
-    /// Restores a clause as `restore` does, at a slot whose number is below an end: one who keeps a table by slots has room
-    /// for it. Memory also comes where the clause's slot isn't below the end.
-    pub fn restore_below(&mut self, id: u64, end: u64) -> Result<(), StoreFault>
-        ensures ok { IfOk result (λ _. IsRestored self.old id self.new) }
-        ensures below { IfOk result (λ _. (s : ℕ) → slot_at self.new id ≡ Some s → s < end) }
-        ensures weakened { IfOk result (λ _. IsTrue (is_weakened self.old id)) }
-        ensures err { IfErr result (λ _. self.new ≡ self.old) }
-        ensures held { IfErr result (λ e. is_weakened self.old id ≡ false → e ≡ fault.NotWeakened) }
-        ensures memory { IfErr result (λ e. IsTrue (is_weakened self.old id) → e ≡ fault.Memory) }
-    {
         let Some(slot) = rows::weakened_slot(&self.clauses, id) else {
             return Err(StoreFault::NotWeakened);
         };
-        if slot.number() >= end {
-            return Err(StoreFault::Memory);
-        }
         let key = rows::key_at(&self.noted, self.indexed, slot);
         if rows::switch(
             &mut self.weakened,

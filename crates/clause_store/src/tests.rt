@@ -181,7 +181,6 @@ fn lists_and_links_are_changed_at_a_slot(rt: HostRuntime) -> Result<(), Fail> {
         assert!(rt; store.link(slot, Which::Two).is_none());
     }
     assert!(rt; store.weaken(8) == Ok(()));
-    assert!(rt; store.restore_below(8, 0) == Err(StoreFault::Memory));
-    assert!(rt; store.restore_below(8, u64::MAX) == Ok(()));
+    assert!(rt; store.restore(8) == Ok(()));
     Ok(())
 }

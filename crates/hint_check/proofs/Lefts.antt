@@ -15,7 +15,7 @@ use Rattle.lits.proofs.Members.{here, there, not_in_nil, here_or_there, all_at, 
 use Rattle.session_rules.specs.declared.Left.{Left}
 use Rattle.session_rules.specs.declared.Left.TheVariants.{Falsified, UnitLiteral, Open}
 use Rattle.session_rules.specs.Logic.{left, left_of, is_tautology, hints_fail, hints_fail_from, after_hint}
-use Rattle.clause_store.specs.Clauses.{Store, Held, Place, slot_at, lits_at, IsStore}
+use Rattle.clause_store.specs.Clauses.{Store, ClauseEntry, Place, slot_at, lits_at, IsStore}
 use Rattle.clause_store.proofs.Lists.{has-push}
 use Rattle.hint_check.specs.Hints.{active_at}
 use Rattle.hint_check.specs.Runs.{AreTrueIn, NoneLater}
@@ -189,14 +189,14 @@ pub record Active (m : Store) (id : ℕ) (ls : List ℕ) : Type 0 where
   pub lits : List ℕ
   pub here : active_at m id ≡ Some lits
   pub same : (q : ℕ) → has ls q ≡ has lits q
-  pub held : Held
+  pub held : ClauseEntry
   pub got : get m id ≡ Some held
   pub of_held : held.literals ≡ lits
 
 pub active_slot : (m : Store) (id s : ℕ) (ls : List ℕ) → IsStore m → slot_at m id ≡ Some s → lits_at m id ≡ ls → Active m id ls
 active_slot m id s ls k e list = by_value (get m id) refl
   where
-    by_place : (h : Held) → get m id ≡ Some h → (o : Option Place) → h.place ≡ o → Active m id ls
+    by_place : (h : ClauseEntry) → get m id ≡ Some h → (o : Option Place) → h.place ≡ o → Active m id ls
     by_place h g None p = let f : slot_at m id ≡ None = rw (g, p) refl in absurd (none-some s (sym f ∙ e))
     by_place h g (Some z) p =
         let lits : lits_at m id ≡ z.lits = rw (g, p) refl in
@@ -209,18 +209,18 @@ active_slot m id s ls k e list = by_value (get m id) refl
           of_held = refl;
         }
 
-    by_value : (o : Option Held) → get m id ≡ o → Active m id ls
+    by_value : (o : Option ClauseEntry) → get m id ≡ o → Active m id ls
     by_value None g = let f : slot_at m id ≡ None = rw g refl in absurd (none-some s (sym f ∙ e))
     by_value (Some h) g = by_place h g h.place refl
 
 pub not_active : (m : Store) (id : ℕ) → slot_at m id ≡ None → active_at m id ≡ None
 not_active m id e = by_value (get m id) refl
   where
-    by_place : (h : Held) → get m id ≡ Some h → (o : Option Place) → h.place ≡ o → active_at m id ≡ None
+    by_place : (h : ClauseEntry) → get m id ≡ Some h → (o : Option Place) → h.place ≡ o → active_at m id ≡ None
     by_place h g None p = rw (g, p) refl
     by_place h g (Some z) p = let f : slot_at m id ≡ Some z.slot = rw (g, p) refl in absurd (none-some z.slot (sym e ∙ f))
 
-    by_value : (o : Option Held) → get m id ≡ o → active_at m id ≡ None
+    by_value : (o : Option ClauseEntry) → get m id ≡ o → active_at m id ≡ None
     by_value None g = rw g refl
     by_value (Some h) g = by_place h g h.place refl
 

@@ -2,14 +2,14 @@
 use Rattle.std.specs.Prelude.{◌≡◌, ℕ, ◌<◌, List, Option, Some, None, is_some, option_and_then, if◌then◌else◌, Contains}
 use Rattle.std.specs.FinMap as finmap
 use Rattle.lits.specs.Literal.{neg}
-use Rattle.clause_store.specs.Clauses.{Store, Held}
+use Rattle.clause_store.specs.Clauses.{Store, ClauseEntry}
 use Rattle.hint_check.specs.declared.HintEnd.{HintEnd}
 use Rattle.hint_check.specs.declared.HintEnd.TheVariants as ends
 use Rattle.session_rules.specs.declared.Left.{Left}
 use Rattle.session_rules.specs.declared.Left.TheVariants as lefts
 
 -- the literal set of a clause if it is active
-abbrev pub if_active : Held → Option (List ℕ)
+abbrev pub if_active : ClauseEntry → Option (List ℕ)
 if_active h = if is_some h.place then Some h.literals else None
 
 -- the literal set of the active clause of an id
@@ -28,7 +28,7 @@ met_seen (Some l) = lefts.UnitLiteral l
 
 -- the literals of the store's clauses have rows in the table
 abbrev pub AreWithin : Store → ℕ → Type 0
-AreWithin m n = (id l : ℕ) (h : Held) → finmap.get m id ≡ Some h → Contains h.literals l → (l < n) × (neg l < n)
+AreWithin m n = (id l : ℕ) (h : ClauseEntry) → finmap.get m id ≡ Some h → Contains h.literals l → (l < n) × (neg l < n)
 
 -- the one literal that is left is one of these
 abbrev pub IsLeftOf : Left → List ℕ → Type 0

@@ -14,7 +14,7 @@ ghost use Rattle.std.specs.Prelude.{◌≡◌, ℕ, ◌+◌, ◌*◌, ◌<◌, �
 ghost use Rattle.lits.specs.Literal.{max_var, var, neg};
 ghost use Rattle.session_rules.specs.Logic as logic;
 ghost use Rattle.std.specs.FinMap as finmap;
-ghost use Rattle.clause_store.specs.Clauses.{Held, IsSlot, slot_at, lits_at};
+ghost use Rattle.clause_store.specs.Clauses.{ClauseEntry, IsSlot, slot_at, lits_at};
 ghost use Rattle.hint_check.specs.Hints.{active_at, end_of, AreWithin, IsLeftOf};
 ghost use Rattle.hint_check.specs.Runs.{AreTrueIn, NoneLater};
 
@@ -252,7 +252,7 @@ impl HintCheck {
     /// the store and of the literals are reserved. It takes no memory.
     pub fn run(&mut self, store: &Store, start: &[Lit], hints: &[u64]) -> HintEnd
         requires start { (l : ℕ) → Contains start.now l → var l ≤ self.old }
-        requires store { (id l : ℕ) (h : Held) → finmap.get store.now id ≡ Some h → Contains h.literals l
+        requires store { (id l : ℕ) (h : ClauseEntry) → finmap.get store.now id ≡ Some h → Contains h.literals l
             → var l ≤ self.old }
         ensures end { result ≡ end_of (logic.hints_fail (active_at store.now) start.now hints.now) }
         ensures reserved { self.new ≡ self.old }

@@ -3,7 +3,7 @@
 ghost use Rattle.std.specs.Prelude.{◌≡◌, ◌≤◌, ℕ, Contains, IfSome, Some};
 ghost use Rattle.std.specs.FinMap as finmap;
 ghost use Rattle.lits.specs.Literal.{var};
-ghost use Rattle.clause_store.specs.Clauses.{Held};
+ghost use Rattle.clause_store.specs.Clauses.{ClauseEntry};
 
 use crate::{HintCheck, HintEnd};
 use clause_store::Store;
@@ -24,8 +24,8 @@ fn lit(n: i64) -> Lit
 // Adds a clause of variables up to 9. Whether it went in.
 fn add(store: &mut Store, id: u64, lits: &[Lit]) -> bool
     requires lits { (l : ℕ) → Contains lits.now l → var l ≤ 9 }
-    requires room { (k l : ℕ) (h : Held) → finmap.get store.old k ≡ Some h → Contains h.literals l → var l ≤ 9 }
-    ensures { (k l : ℕ) (h : Held) → finmap.get store.new k ≡ Some h → Contains h.literals l → var l ≤ 9 }
+    requires room { (k l : ℕ) (h : ClauseEntry) → finmap.get store.old k ≡ Some h → Contains h.literals l → var l ≤ 9 }
+    ensures { (k l : ℕ) (h : ClauseEntry) → finmap.get store.new k ≡ Some h → Contains h.literals l → var l ≤ 9 }
 {
     match store.add(id, lits) {
         Ok(_) => true,
@@ -35,8 +35,8 @@ fn add(store: &mut Store, id: u64, lits: &[Lit]) -> bool
 
 // Makes a clause a weakened one. Whether it was active.
 fn weaken(store: &mut Store, id: u64) -> bool
-    requires { (k l : ℕ) (h : Held) → finmap.get store.old k ≡ Some h → Contains h.literals l → var l ≤ 9 }
-    ensures { (k l : ℕ) (h : Held) → finmap.get store.new k ≡ Some h → Contains h.literals l → var l ≤ 9 }
+    requires { (k l : ℕ) (h : ClauseEntry) → finmap.get store.old k ≡ Some h → Contains h.literals l → var l ≤ 9 }
+    ensures { (k l : ℕ) (h : ClauseEntry) → finmap.get store.new k ≡ Some h → Contains h.literals l → var l ≤ 9 }
 {
     match store.weaken(id) {
         Ok(()) => true,
@@ -46,14 +46,14 @@ fn weaken(store: &mut Store, id: u64) -> bool
 
 // No clause.
 fn no_clause(alloc: Global) -> Store
-    ensures { (k l : ℕ) (h : Held) → finmap.get result k ≡ Some h → Contains h.literals l → var l ≤ 9 }
+    ensures { (k l : ℕ) (h : ClauseEntry) → finmap.get result k ≡ Some h → Contains h.literals l → var l ≤ 9 }
 {
     Store::new(alloc)
 }
 
 // The clauses 1 `1 2`, 2 `-1 3` and 3 `-1 -3`.
 fn three_clauses(alloc: Global) -> Option<Store>
-    ensures { IfSome result (λ s. (k l : ℕ) (h : Held) → finmap.get s k ≡ Some h → Contains h.literals l → var l ≤ 9) }
+    ensures { IfSome result (λ s. (k l : ℕ) (h : ClauseEntry) → finmap.get s k ≡ Some h → Contains h.literals l → var l ≤ 9) }
 {
     let mut store = no_clause(alloc);
     if add(&mut store, 1, &[lit(1), lit(2)])
@@ -68,7 +68,7 @@ fn three_clauses(alloc: Global) -> Option<Store>
 // The end of a run over a table that has no run_number.
 fn run(alloc: Global, store: &Store, start: &[Lit], hints: &[u64]) -> Result<HintEnd, AllocError>
     requires start { (l : ℕ) → Contains start.now l → var l ≤ 9 }
-    requires room { (k l : ℕ) (h : Held) → finmap.get store.now k ≡ Some h → Contains h.literals l → var l ≤ 9 }
+    requires room { (k l : ℕ) (h : ClauseEntry) → finmap.get store.now k ≡ Some h → Contains h.literals l → var l ≤ 9 }
 {
     let mut check = HintCheck::new(alloc);
     check.reserve(9)?;
@@ -77,7 +77,7 @@ fn run(alloc: Global, store: &Store, start: &[Lit], hints: &[u64]) -> Result<Hin
 
 // The end of a run from one literal.
 fn run_from(alloc: Global, store: &Store, n: i64, hints: &[u64]) -> Result<HintEnd, AllocError>
-    requires { (k l : ℕ) (h : Held) → finmap.get store.now k ≡ Some h → Contains h.literals l → var l ≤ 9 }
+    requires { (k l : ℕ) (h : ClauseEntry) → finmap.get store.now k ≡ Some h → Contains h.literals l → var l ≤ 9 }
 {
     run(alloc, store, &[lit(n)], hints)
 }

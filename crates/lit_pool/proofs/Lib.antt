@@ -1,3 +1,4 @@
+pub mod Joining
 pub mod PiecesMap
 pub mod Placed
 pub mod Raw

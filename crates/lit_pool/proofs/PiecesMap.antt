@@ -18,10 +18,10 @@ ties q = grind (arith, nat_tests)
 differs : (q k : ℕ) → q ≢ k → eq_by_cmp nat_cmp q k ≡ false
 differs q k ne = grind (arith, nat_tests)
 
-cases : (q i : ℕ) → (q ≡ i) ⊎ (q ≢ i)
+pub cases : (q i : ℕ) → (q ≡ i) ⊎ (q ≢ i)
 cases q i = grind arith
 
-three : (q s : ℕ) → (q < s) ⊎ ((q ≡ s) ⊎ (s < q))
+pub three : (q s : ℕ) → (q < s) ⊎ ((q ≡ s) ⊎ (s < q))
 three q s = grind arith
 
 same : (m n : Entries) → ((q : ℕ) → get m q ≡ get n q) → m ≡ n
@@ -130,7 +130,7 @@ words_from-same ws vs at (suc n) h =
     let others : words_from vs (suc at) n ≡ words_from ws (suc at) n = words_from-same ws vs (suc at) n (λ i low high. h i (omega arith) (omega arith)) in
     (λ i. first i ∷ others i)
 
-entry_same : (ws vs : List ℕ) (q : ℕ) → ((i : ℕ) → 8 * q ≤ i → i < 8 * q + 4 + len_in ws q → word vs i ≡ word ws i) → entry_in vs q ≡ entry_in ws q
+pub entry_same : (ws vs : List ℕ) (q : ℕ) → ((i : ℕ) → 8 * q ≤ i → i < 8 * q + 4 + len_in ws q → word vs i ≡ word ws i) → entry_in vs q ≡ entry_in ws q
 entry_same ws vs q h =
     let long : len_in vs q ≡ len_in ws q = h (8 * q + 1) (omega arith) (omega arith) in
     let one : word vs (8 * q + 2) ≡ word ws (8 * q + 2) = h (8 * q + 2) (omega arith) (omega arith) in
@@ -144,7 +144,7 @@ live_piece (Inside) live = cc
 live_piece (Freed) live = refl
 live_piece (Live) live = refl
 
-seen_by : (ws vs : List ℕ) (q : ℕ) (k : Kind) → (is_live k ≡ true → entry_in vs q ≡ entry_in ws q) → seen vs q k ≡ seen ws q k
+pub seen_by : (ws vs : List ℕ) (q : ℕ) (k : Kind) → (is_live k ≡ true → entry_in vs q ≡ entry_in ws q) → seen vs q k ≡ seen ws q k
 seen_by ws vs q (Inside) h = refl
 seen_by ws vs q (Freed) h = refl
 seen_by ws vs q (Live) h = ap Some (h refl)
@@ -199,10 +199,10 @@ are_again ws vs ks js pieces long many was room fits = record {
   few = λ s live. (fits s live).1;
 }
 
-kind_set : (ks : List Kind) (s : ℕ) (k : Kind) → s < length ks → kind_at (set ks s k) s ≡ k
+pub kind_set : (ks : List Kind) (s : ℕ) (k : Kind) → s < length ks → kind_at (set ks s k) s ≡ k
 kind_set ks s k lt = get_or-set_same ks s k Inside lt
 
-kind_other : (ks : List Kind) (s : ℕ) (k : Kind) (q : ℕ) → q ≢ s → kind_at (set ks s k) q ≡ kind_at ks q
+pub kind_other : (ks : List Kind) (s : ℕ) (k : Kind) (q : ℕ) → q ≢ s → kind_at (set ks s k) q ≡ kind_at ks q
 kind_other ks s k q ne = get_or-set_other ks s q k Inside ne
 
 -- Maps that differ at one slot alone, or nowhere.
@@ -223,7 +223,7 @@ removed ws vs ks js s is others = same _ _ (λ q.
       | inr apart ↦ rw (others q apart, get-remove nat_cmp_total, differs q s apart) (sym (get_live ws ks q))
     ])
 
-unchanged : (ws vs : List ℕ) (ks js : List Kind) → ((q : ℕ) → seen vs q (kind_at js q) ≡ seen ws q (kind_at ks q)) → live_pieces vs js ≡ live_pieces ws ks
+pub unchanged : (ws vs : List ℕ) (ks js : List Kind) → ((q : ℕ) → seen vs q (kind_at js q) ≡ seen ws q (kind_at ks q)) → live_pieces vs js ≡ live_pieces ws ks
 unchanged ws vs ks js all = same _ _ (λ q. get_live vs js q ∙ all q ∙ sym (get_live ws ks q))
 
 -- the piece of a slot, by its kind
@@ -509,3 +509,175 @@ appended ws ks units pieces wide some = appended_by ws (set ws (8 * length ks) (
     (get_or-set_same ws (8 * length ks) (8 * units - 4) 0 (omega arith))
     (kind_set (ks ++ replicate units Inside) (length ks) Freed (omega (arith, long_kinds ks units)))
     (λ q ne. kind_other (ks ++ replicate units Inside) (length ks) Freed q ne ∙ kind_before ks units q)
+
+-- A piece without an entry is parted in two.
+
+-- what holds where the piece at s keeps u units
+pub record IsSplit (ws vs : List ℕ) (ks js : List Kind) (s u : ℕ) : Type 0 where
+  pub pieces : ArePieces vs js
+  pub stays : live_pieces vs js ≡ live_pieces ws ks
+  pub freed : kind_at js s ≡ Freed
+  pub rest : kind_at js (s + u) ≡ Freed
+  pub room : room_in vs s + 4 ≡ 8 * u
+
+module _ (ws vs : List ℕ) (ks js : List Kind) (s u : ℕ) (pieces : ArePieces ws ks) (was : kind_at ks s ≡ Freed) (some : 1 ≤ u)
+    (here : room_in vs s + 4 ≡ 8 * u) (there : 8 * (s + u) + 4 + room_in vs (s + u) ≤ 8 * s + 4 + room_in ws s)
+    (long_words : length vs ≡ length ws) (long_kinds : length js ≡ length ks)
+    (kept : (i : ℕ) → i ≢ 8 * s → i ≢ 8 * (s + u) → word vs i ≡ word ws i)
+    (rest : kind_at js (s + u) ≡ Freed) (others : (q : ℕ) → q ≢ s + u → kind_at js q ≡ kind_at ks q) where
+  at : is_piece (kind_at ks s) ≡ true
+  at = ap is_piece was
+
+  end : 8 * s + 4 + room_in ws s ≤ 8 * length ks
+  end = pieces.within s at
+
+  piece_was : (q : ℕ) → is_piece (kind_at js q) ≡ true → q ≢ s + u → is_piece (kind_at ks q) ≡ true
+  piece_was q piece ne = sym (ap is_piece (others q ne)) ∙ piece
+
+  room_was : (q : ℕ) → q ≢ s → q ≢ s + u → room_in vs q ≡ room_in ws q
+  room_was q ne ne2 = kept (8 * q) (λ e. ne (omega (arith, e))) (λ e. ne2 (omega (arith, e)))
+
+  -- where a piece ends that was there before, beside the one that is parted
+  clear : (q : ℕ) → is_piece (kind_at js q) ≡ true → q ≢ s → q ≢ s + u → (8 * q + 4 + room_in vs q ≤ 8 * s) ⊎ (8 * s + 4 + room_in ws s ≤ 8 * q)
+  clear q piece ne ne2 = elim (three q s) [
+    | inl before ↦ let a = pieces.apart q s (piece_was q piece ne2) at before in let r = room_was q ne ne2 in inl (omega (arith, a, r))
+    | inr (inl same) ↦ absurd (ne same)
+    | inr (inr behind) ↦ inr (pieces.apart s q at (piece_was q piece ne2) behind)
+  ]
+
+  split_within : (q : ℕ) → is_piece (kind_at js q) ≡ true → 8 * q + 4 + room_in vs q ≤ 8 * length js
+  split_within q piece = elim (cases q s) [
+    | inl is ↦ let r : room_in vs q ≡ room_in vs s = ap (room_in vs) is in omega (arith, r, is, end, there, here, long_kinds)
+    | inr ne ↦ elim (cases q (s + u)) [
+      | inl is ↦ let r : room_in vs q ≡ room_in vs (s + u) = ap (room_in vs) is in omega (arith, r, is, end, there, long_kinds)
+      | inr ne2 ↦ let w = pieces.within q (piece_was q piece ne2) in let r = room_was q ne ne2 in omega (arith, w, r, long_kinds)
+    ]
+  ]
+
+  split_apart : (a b : ℕ) → is_piece (kind_at js a) ≡ true → is_piece (kind_at js b) ≡ true → a < b → 8 * a + 4 + room_in vs a ≤ 8 * b
+  split_apart a b piece_a piece_b lt = elim (cases a s) [
+    | inl is ↦ let r : room_in vs a ≡ room_in vs s = ap (room_in vs) is in elim (cases b (s + u)) [
+      | inl is2 ↦ omega (arith, r, is, is2, here)
+      | inr ne2 ↦ let ne : b ≢ s = (λ e. absurd (omega (arith, e, is, lt))) in elim (clear b piece_b ne ne2) [
+        | inl before ↦ absurd (omega (arith, before, is, lt))
+        | inr behind ↦ omega (arith, r, is, here, there, behind)
+      ]
+    ]
+    | inr ne_a ↦ elim (cases a (s + u)) [
+      | inl is ↦ let r : room_in vs a ≡ room_in vs (s + u) = ap (room_in vs) is in
+          let ne : b ≢ s = (λ e. absurd (omega (arith, e, is, lt))) in
+          let ne2 : b ≢ s + u = (λ e. absurd (omega (arith, e, is, lt))) in
+          elim (clear b piece_b ne ne2) [
+            | inl before ↦ absurd (omega (arith, before, is, lt))
+            | inr behind ↦ omega (arith, r, is, there, behind)
+          ]
+      | inr ne_a2 ↦ elim (cases b s) [
+        | inl is ↦ elim (clear a piece_a ne_a ne_a2) [
+          | inl before ↦ omega (arith, before, is)
+          | inr behind ↦ absurd (omega (arith, behind, is, lt))
+        ]
+        | inr ne_b ↦ elim (cases b (s + u)) [
+          | inl is ↦ elim (clear a piece_a ne_a ne_a2) [
+            | inl before ↦ omega (arith, before, is)
+            | inr behind ↦ absurd (omega (arith, behind, is, lt, there))
+          ]
+          | inr ne_b2 ↦ let r = room_was a ne_a ne_a2 in
+              let p = pieces.apart a b (piece_was a piece_a ne_a2) (piece_was b piece_b ne_b2) lt in omega (arith, r, p)
+        ]
+      ]
+    ]
+  ]
+
+  -- a live piece is none of the two
+  live_ne : (q : ℕ) → is_live (kind_at js q) ≡ true → q ≢ s + u
+  live_ne q live e = absurd (let dead : is_live (kind_at js q) ≡ false = ap (λ n. is_live (kind_at js n)) e ∙ ap is_live rest in cc)
+
+  live_was : (q : ℕ) → is_live (kind_at js q) ≡ true → is_live (kind_at ks q) ≡ true
+  live_was q live = sym (ap is_live (others q (live_ne q live))) ∙ live
+
+  live_ne_s : (q : ℕ) → is_live (kind_at ks q) ≡ true → q ≢ s
+  live_ne_s q live e = absurd (let dead : is_live (kind_at ks q) ≡ false = ap (λ n. is_live (kind_at ks n)) e ∙ ap is_live was in cc)
+
+  len_was : (q : ℕ) → len_in vs q ≡ len_in ws q
+  len_was q = kept (8 * q + 1) (λ e. absurd (omega (arith, e))) (λ e. absurd (omega (arith, e)))
+
+  seen_was : (q : ℕ) → q ≢ s + u → seen vs q (kind_at js q) ≡ seen ws q (kind_at ks q)
+  seen_was q ne2 = ap (λ k. seen vs q k) (others q ne2) ∙ seen_by ws vs q (kind_at ks q) (λ live.
+      let ne = live_ne_s q live in
+      let fits : len_in ws q ≤ room_in ws q = pieces.fits q live in
+      let piece : is_piece (kind_at ks q) ≡ true = live_piece (kind_at ks q) live in
+      elim (three q s) [
+        | inl before ↦ let a = pieces.apart q s piece at before in
+            entry_same ws vs q (λ i low high. kept i (λ e. absurd (omega (arith, e, a, high, fits))) (λ e. absurd (omega (arith, e, a, high, fits))))
+        | inr (inl same) ↦ absurd (ne same)
+        | inr (inr behind) ↦ let a = pieces.apart s q at piece behind in
+            entry_same ws vs q (λ i low high. kept i (λ e. absurd (omega (arith, e, a, low))) (λ e. absurd (omega (arith, e, a, low, there))))
+      ])
+
+  end_seen : seen ws (s + u) (kind_at ks (s + u)) ≡ None
+  end_seen = elim (kind_at ks (s + u)) as (λ k. kind_at ks (s + u) ≡ k → seen ws (s + u) k ≡ None) [
+    | Inside ↦ λ e. refl
+    | Freed ↦ λ e. refl
+    | Live ↦ λ e. let a = pieces.apart s (s + u) at (ap is_piece e) (omega (arith, some)) in absurd (omega (arith, a, there))
+  ] refl
+
+  pub split_by : IsSplit ws vs ks js s u
+  split_by = record {
+    pieces = record {
+      wide = let w = pieces.wide in omega (arith, w, long_words, long_kinds);
+      within = split_within;
+      apart = split_apart;
+      fits = λ q live. let l = live_was q live in let f = pieces.fits q l in let n = len_was q in
+          let r = room_was q (live_ne_s q l) (live_ne q live) in omega (arith, f, n, r);
+      few = λ q live. let f = pieces.few q (live_was q live) in let n = len_was q in omega (arith, f, n);
+    };
+    stays = unchanged ws vs ks js (λ q. elim (cases q (s + u)) [
+      | inl is ↦ ap (λ n. seen vs n (kind_at js n)) is ∙ ap (λ k. seen vs (s + u) k) rest ∙ sym (ap (λ n. seen ws n (kind_at ks n)) is ∙ end_seen)
+      | inr ne ↦ seen_was q ne
+    ]);
+    freed = others s (λ e. absurd (omega (arith, e, some))) ∙ was;
+    rest = rest;
+    room = here;
+  }
+
+-- the same by the two words and the kind that are written
+pub split : (ws : List ℕ) (ks : List Kind) (s u whole : ℕ) → ArePieces ws ks → kind_at ks s ≡ Freed → 1 ≤ u → u < whole → 8 * whole ≤ room_in ws s + 4
+    → IsSplit ws (set (set ws (8 * s) (8 * u - 4)) (8 * (s + u)) (8 * (whole - u) - 4)) ks (set ks (s + u) Freed) s u
+split ws ks s u whole pieces was some less fits =
+    let vs = set ws (8 * s) (8 * u - 4) in
+    let at : is_piece (kind_at ks s) ≡ true = ap is_piece was in
+    let end : 8 * s + 4 + room_in ws s ≤ 8 * length ks = pieces.within s at in
+    let wide : 8 * length ks ≤ length ws = pieces.wide in
+    let long : length vs ≡ length ws = length-set ws (8 * s) (8 * u - 4) in
+    let ne : 8 * s ≢ 8 * (s + u) = (λ e. absurd (omega (arith, e, some))) in
+    let here : word (set vs (8 * (s + u)) (8 * (whole - u) - 4)) (8 * s) ≡ 8 * u - 4 = get_or-set_other vs (8 * (s + u)) (8 * s) (8 * (whole - u) - 4) 0 ne ∙ get_or-set_same ws (8 * s) (8 * u - 4) 0 (omega (arith, end, wide)) in
+    let there : word (set vs (8 * (s + u)) (8 * (whole - u) - 4)) (8 * (s + u)) ≡ 8 * (whole - u) - 4 = get_or-set_same vs (8 * (s + u)) (8 * (whole - u) - 4) 0 (omega (arith, end, wide, long, fits, less)) in
+    split_by ws (set vs (8 * (s + u)) (8 * (whole - u) - 4)) ks (set ks (s + u) Freed) s u pieces was some
+    (omega (arith, here, some)) (omega (arith, there, fits, less))
+    (length-set vs (8 * (s + u)) (8 * (whole - u) - 4) ∙ long) (length-set ks (s + u) Freed)
+    (λ i a b. get_or-set_other vs (8 * (s + u)) i (8 * (whole - u) - 4) 0 b ∙ get_or-set_other ws (8 * s) i (8 * u - 4) 0 a)
+    (kind_set ks (s + u) Freed (omega (arith, end, fits, less)))
+    (λ q apart. kind_other ks (s + u) Freed q apart)
+
+-- the words have changed within a piece that has no entry
+pub record Chained (ws vs : List ℕ) (ks : List Kind) (s : ℕ) : Type 0 where
+  pub pieces : ArePieces vs ks
+  pub stays : live_pieces vs ks ≡ live_pieces ws ks
+  pub rooms : (q : ℕ) → kind_at ks q ≡ Freed → room_in vs q ≡ room_in ws q
+
+pub chained : (ws vs : List ℕ) (ks : List Kind) (s : ℕ) → ArePieces ws ks → kind_at ks s ≡ Freed → IsWithin s ws vs → Chained ws vs ks s
+chained ws vs ks s pieces was changed = record {
+  pieces = are_again ws vs ks ks pieces changed.long refl (λ q piece. piece) (λ q piece. room_kept ws vs ks s q pieces at piece changed) (λ q live.
+      let kept : len_in vs q ≡ len_in ws q = len_kept ws vs ks s q pieces at (live_piece (kind_at ks q) live) (other q live) changed in
+      let fits : len_in ws q ≤ room_in ws q = pieces.fits q live in
+      let few : len_in ws q ≤ most_literals = pieces.few q live in
+      (omega (arith, kept, fits), omega (arith, kept, few)));
+  stays = unchanged ws vs ks ks (λ q. seen_by ws vs q (kind_at ks q) (λ live. entry_kept ws vs ks s q pieces at live (other q live) changed));
+  rooms = λ q freed. room_kept ws vs ks s q pieces at (ap is_piece freed) changed;
+}
+  where
+    at : is_piece (kind_at ks s) ≡ true
+    at = ap is_piece was
+
+    other : (q : ℕ) → is_live (kind_at ks q) ≡ true → q ≢ s
+    other q live e = absurd (let dead : is_live (kind_at ks q) ≡ false = ap (λ n. is_live (kind_at ks n)) e ∙ ap is_live was in cc)

@@ -141,18 +141,8 @@ module _ {M : Type 1} {𝓤 : Ura M} (𝓛 : Logic 𝓤) (b : ℕ) where
       rewrite ! 0 (λ (k : ℕ). ‵ (froom (ty_array lit_type k) b o)) long refl $ by ! (𝓛.laws.room-raw (ty_array lit_type n) b o))
 
 -- the size and the alignment of a block
-pub block_size : (n : ℕ) → n < 2 ^ 32 → capped (size (block_type n)) ≡ n * 4
+pub block_size : (n : ℕ) → n < 2 ^ 40 → capped (size (block_type n)) ≡ n * 4
 block_size n small = ap capped (size-raw (ty_array lit_type n)) ∙ capped_is (n * 4) (omega arith)
 
 pub block_align : (n : ℕ) → capped (align (block_type n)) ≡ 4
 block_align n = ap capped (align-raw (ty_array lit_type n))
-
--- a pair is made of its two values
-abbrev pub pair : Val → Val → Val
-pair u v = vstruct (vcons u (vcons v vnil))
-
-pub pairs : {M : Type 1} {𝓤 : Ura M} (𝓛 : Logic 𝓤) (R S : RattleType) (x : R.Denot) (y : S.Denot) (u v : Val)
-    → ent 𝓤 (sep 𝓤 (sem 𝓛 (R.own_val x (u ∷ []))) (sem 𝓛 (S.own_val y (v ∷ [])))) (sem 𝓛 ((Tuple (R ∷ S ∷ [])).own_val (x, y) (pair u v ∷ [])))
-pairs 𝓛 R S x y u v = qed 𝓛 (‵ (R.own_val x (u ∷ [])) ∷ ‵ (S.own_val y (v ∷ [])) ∷ []) ∵
-    nothing ! $ move ! (2 ∷ 0 ∷ []) $ fjoin ! $ move ! (1 ∷ 0 ∷ []) $ fjoin ! $ feq_i ! (List Val) (pair u v ∷ []) (pair u v ∷ []) refl $ fjoin ! $
-    fpack ! (Valss (R ∷ S ∷ [])) (within (shape_of (tuple_type (R ∷ S ∷ []))) (x, (y, tt)) (pair u v ∷ [])) (u ∷ [], (v ∷ [], tt)) $ done !

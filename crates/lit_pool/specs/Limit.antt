@@ -1,7 +1,6 @@
 -- How many slots there may be.
-use Rattle.std.specs.Prelude.{ℕ, ◌*◌, ◌-◌}
-use Rattle.lits.specs.Literal.{max_var}
+use Rattle.std.specs.Prelude.{ℕ, ◌^◌}
 
--- each slot is below this number, which is the greatest code of a literal
+-- each slot is below this number
 abbrev pub slots_end : ℕ
-slots_end = 2 * max_var - 1
+slots_end = 2 ^ 31

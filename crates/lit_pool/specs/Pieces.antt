@@ -1,7 +1,7 @@
 -- How the words and the kinds of their units give the map. Words lie in units of 8. A piece is a run of units: its head has
 -- the number of places for literals, the number of literals and the two links, and the literals follow. A slot is the number
 -- of a piece's first unit.
-use Rattle.std.specs.Prelude.{◌≡◌, ℕ, zero, suc, ◌+◌, ◌*◌, ◌<◌, ◌≤◌, ◌⊎◌, Bool, true, false, nat_eq, if◌then◌else◌, cond, List, [], ◌∷◌, length, slice_index_or, Option, Some, None}
+use Rattle.std.specs.Prelude.{◌≡◌, ℕ, zero, suc, ◌+◌, ◌*◌, ◌<◌, ◌≤◌, ◌⊎◌, Bool, true, false, nat_lt, if◌then◌else◌, cond, List, [], ◌∷◌, length, slice_index_or, Option, Some, None}
 use Rattle.std.specs.FinMap.{from_entries, len}
 use Rattle.lit_pool.specs.Limit.{slots_end}
 use Rattle.lit_pool.specs.declared.Which.{Which}
@@ -13,7 +13,7 @@ use Rattle.lit_pool.specs.Listed.{listed}
 
 -- no entry has more literals
 abbrev pub most_literals : ℕ
-most_literals = 16000000
+most_literals = 4294967292
 
 -- the word at a place
 abbrev pub word : List ℕ → ℕ → ℕ
@@ -29,7 +29,7 @@ len_in ws s = word ws (8 * s + 1)
 
 -- the link that a word says: none where it is no slot's
 abbrev pub link_of_word : ℕ → Option ℕ
-link_of_word n = if nat_eq n slots_end then None else Some n
+link_of_word n = if nat_lt n slots_end then Some n else None
 
 -- the word of a link
 abbrev pub word_of_link : Option ℕ → ℕ

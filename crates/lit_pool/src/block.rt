@@ -17,7 +17,7 @@ use std::slice;
 pub(crate) struct Room {
     at: *mut Lit,
     len: usize,
-    ghost small: { len < 2 ^ 32 },
+    ghost small: { len < 2 ^ 40 },
 }
 
 impl Model for Room {
@@ -41,7 +41,7 @@ pub(crate) struct Block {
     at: *mut Lit,
     len: usize,
     ghost items: { List ℕ },
-    ghost long: { (len ≡ length items) × (len < 2 ^ 32) },
+    ghost long: { (len ≡ length items) × (len < 2 ^ 40) },
 }
 
 impl Model for Block {
@@ -53,7 +53,7 @@ impl Model for Block {
 impl Room {
     /// Room for this many literals, with the right to give it back. None where memory is wanting.
     pub(crate) fn new<A: Allocator>(alloc: &A, len: usize) -> Option<(Room, Lease<A>)>
-        requires { len < 2 ^ 32 }
+        requires { len < 2 ^ 40 }
         ensures { IfSome result (λ r. (r.0.len ≡ len) × (r.1.at ≡ r.0.at) × (r.1.len ≡ len) × (r.1.alloc ≡ alloc.now)) }
     {
         match alloc.allocate(len * size_of::<Lit>(), align_of::<Lit>()) {

@@ -1,8 +1,17 @@
 //! Lists of literals with two links each, named by slots. A clause store keeps its clauses in one pool. The links are for lists
-//! of entries that callers thread through them; the pool threads its freed entries so. Contracts see a finite map from each
+//! of entries that callers thread through them; the pool threads its freed pieces so. Contracts see a finite map from each
 //! live slot to its entry, so each call says in one equation what becomes of one entry and that all others stay.
 //!
-//! All entries lie in one table of words in raw memory, and a slot says where its entry begins there.
+//! All entries lie in one table of words, as the clauses of MiniSat do (N. Eén and N. Sörensson, version 2.2, 2010), and a slot
+//! of 32 bits says where its entry begins there. So a visit of a clause reads its length, its links and its first literals in
+//! one line of the processor's cache. With a vector of its own for each clause, a name would take twice the bits, a short
+//! clause twice the memory, and each visit would wait for memory twice.
+//!
+//! An entry never moves while it is live, so its slot stays its name. What is freed is a piece of the table, and serves later
+//! entries: pieces are listed by their sizes, one of a greater size is split where none of the due size is free, and pieces
+//! that lie side by side are joined before the table would grow (a survey of such schemes is P. R. Wilson's and others', 1995).
+//! Without the sizes an entry would look for its piece; without the splitting and joining, a pool that lost most of its entries
+//! would take new memory for those of other lengths.
 #![tactic(auto)]
 
 ghost use Rattle.std.specs.Prelude.{◌≡◌, ◌+◌, ◌*◌, ◌^◌, ◌<◌, ◌≤◌, [], ◌∷◌, length, swap, slice_index, IfOk, IfSome, IfNone, OnErr, IsTrue, ◌↔◌, Some, None, true, false};
@@ -23,10 +32,11 @@ mod plain;
 mod tests;
 mod words;
 
-use crate::freed::{Freed, size_for};
+use crate::freed::{Freed, Size, size_for, size_within};
 use crate::kind::Kind;
+use crate::piece::UNIT;
 use crate::words::Words;
-use lits::{Lit, MAX_VAR};
+use lits::Lit;
 use std::alloc::{AllocError, Global};
 use std::marker::Model;
 
@@ -49,11 +59,12 @@ impl Model for Slot {
     ghost inverse = { λ n. record { number = n } };
 }
 
-/// Each slot is below this number, which as a link's word stands for no slot.
-const SLOTS_END: u32 = 2 * MAX_VAR - 1;
+/// Each slot is below this number, which as a link's word stands for no slot. A slot counts units of 32 bytes, so this many
+/// are 64 GiB. A slot and one bit beside it go into 32 bits, as watch lists keep them.
+const SLOTS_END: u32 = 2_147_483_648;
 
-/// No entry has more literals.
-const MOST_LITERALS: usize = 16_000_000;
+/// No entry has more literals: a word that tells their number is the code of a literal. So many take 16 GiB.
+const MOST_LITERALS: usize = 4_294_967_292;
 
 impl Slot {
     /// The slot as a number.
@@ -87,6 +98,8 @@ pub struct Pool {
     words: Words,
     kinds: Vec<Kind>,
     freed: Freed,
+    // how many units were freed since pieces were joined
+    loose: usize,
     live: u64,
 }
 
@@ -116,6 +129,7 @@ impl Pool {
             words: Words::new(alloc),
             kinds: Vec::new(alloc),
             freed: Freed::new(),
+            loose: 0,
             live: 0,
         }
     }
@@ -144,11 +158,17 @@ impl Pool {
         if lits.len() > MOST_LITERALS {
             return Err(AllocError);
         }
-        let (size, units) = size_for(lits.len());
-        match self.reuse(size, lits) {
-            Some(s) => Ok(s),
-            None => self.push(units, lits),
+        let size = size_for(lits.len());
+        if let Some(s) = self.reuse(size, lits) {
+            return Ok(s);
         }
+        if self.is_worth_joining(size.units) {
+            self.join();
+            if let Some(s) = self.reuse(size, lits) {
+                return Ok(s);
+            }
+        }
+        self.push(size.units, lits)
     }
 
     /// The literals of a live entry in their order.
@@ -214,28 +234,56 @@ impl Pool {
         requires live { IsLive self.old s }
         ensures { self.new ≡ map.remove self.old s }
     {
-        let (size, _) = size_for(piece::len(&self.words, s));
+        let units = piece::units(&self.words, s);
+        let size = size_within(units);
         pieces::vacate(&mut self.words, &mut self.kinds, s, self.freed.last(size));
         self.freed.set_last(size, Some(s));
+        self.loose = self.loose.saturating_add(units);
         self.live -= 1;
     }
 
-    /// Puts an entry into the piece that was freed last among those of this size. There may be none.
-    fn reuse(&mut self, size: usize, lits: &[Lit]) -> Option<Slot>
-        requires { length lits.now ≤ most_literals }
+    /// Whether the words would be moved for so many units more, and half of the units were freed since pieces were joined. So
+    /// the joining takes no more time than the frees before it did.
+    fn is_worth_joining(&self, units: usize) -> bool {
+        let count = self.kinds.len();
+        let end = count.saturating_add(units).saturating_mul(UNIT);
+        self.loose >= count / 2 && !self.words.has_places(end)
+    }
+
+    /// Joins the freed pieces that lie side by side.
+    fn join(&mut self)
+        ensures { self.new ≡ self.old }
+    {
+        pieces::join_all(&mut self.words, &mut self.kinds, &mut self.freed);
+        self.loose = 0;
+    }
+
+    /// Puts an entry into a freed piece: the one that was freed last among those of this size, or of the next greater size
+    /// that has one, whose units beyond the size become a freed piece of their own. There may be none.
+    fn reuse(&mut self, size: Size, lits: &[Lit]) -> Option<Slot>
+        requires few { length lits.now ≤ most_literals }
+        requires room { length lits.now + 4 ≤ 8 * size.units }
         ensures fresh { IfSome result (λ s. map.get self.old s ≡ None) }
         ensures some { IfSome result (λ s. self.new ≡ map.insert self.old s (new_entry lits.now)) }
         ensures none { IfNone result (self.new ≡ self.old) }
     {
-        let Some(s) = self.freed.last(size) else {
+        let from = self.freed.size_from(size.number);
+        let Some(s) = self.freed.last(from) else {
             return None;
         };
-        if !pieces::has_room(&self.words, &self.kinds, s, lits.len()) {
+        if !pieces::has_units(&self.words, &self.kinds, s, size.units) {
             return None;
         }
         let next = piece::link(&self.words, s, Which::One);
+        self.freed.set_last(from, next);
+        pieces::trim(
+            &mut self.words,
+            &mut self.kinds,
+            &mut self.freed,
+            s,
+            size.units,
+        );
         pieces::occupy(&mut self.words, &mut self.kinds, s, lits);
-        self.freed.set_last(size, next);
         self.live += 1;
         Some(s)
     }
@@ -244,7 +292,7 @@ impl Pool {
     fn push(&mut self, units: usize, lits: &[Lit]) -> Result<Slot, AllocError>
         requires few { length lits.now ≤ most_literals }
         requires room { length lits.now + 4 ≤ 8 * units }
-        requires limit { units ≤ 4000001 }
+        requires limit { units ≤ 536870912 }
         ensures fresh { IfOk result (λ s. map.get self.old s ≡ None) }
         ensures ok { IfOk result (λ s. self.new ≡ map.insert self.old s (new_entry lits.now)) }
         ensures err { OnErr result (self.new ≡ self.old) }

@@ -1,7 +1,6 @@
 //! Reading and writing the entry of a piece: its head has four words, the number of places for literals, the number of
 //! literals and the two links, and the literals follow. So a visit of an entry finds all of it side by side.
-ghost use Rattle.std.specs.Prelude.{◌≡◌, ◌+◌, ◌*◌, ◌-◌, ◌<◌, ◌≤◌, length, slice_index, swap};
-ghost use Rattle.lits.specs.Literal.{max_var};
+ghost use Rattle.std.specs.Prelude.{◌≡◌, ◌+◌, ◌*◌, ◌-◌, ◌/◌, ◌<◌, ◌≤◌, length, slice_index, slice_set, swap};
 ghost use Rattle.lit_pool.specs.Entry.{new_entry, link_of, relinked};
 ghost use Rattle.lit_pool.specs.Pieces.{IsWithin, entry_in, len_in, room_in, most_literals, link_of_word, word_of_link, place_of_link};
 
@@ -41,10 +40,10 @@ fn link_in(word: Lit) -> Option<Slot>
     ensures { result ≡ link_of_word word }
 {
     let number = word.code();
-    if number == SLOTS_END {
-        None
-    } else {
+    if number < SLOTS_END {
         Some(Slot { number })
+    } else {
+        None
     }
 }
 
@@ -63,9 +62,30 @@ fn place_of(which: Which) -> usize
 #[inline(always)]
 pub(crate) fn room(words: &Words, s: Slot) -> usize
     requires { 8 * s + 4 ≤ length words.now }
-    ensures { result ≡ room_in words.now s }
+    ensures room { result ≡ room_in words.now s }
+    ensures limit { result ≤ 4294967293 }
 {
     words.at(base(s)).code() as usize
+}
+
+/// How many units a piece has.
+#[inline(always)]
+pub(crate) fn units(words: &Words, s: Slot) -> usize
+    requires { 8 * s + 4 ≤ length words.now }
+    ensures units { result ≡ (room_in words.now s + 4) / 8 }
+    ensures limit { result ≤ 536870912 }
+{
+    (room(words, s) + HEAD) / UNIT
+}
+
+/// Says how many units a piece has.
+pub(crate) fn set_units(words: &mut Words, s: Slot, units: usize)
+    requires within { 8 * s < length words.old }
+    requires some { 1 ≤ units }
+    requires limit { units ≤ 536870912 }
+    ensures { words.new ≡ slice_set words.old (8 * s) (8 * units - 4) }
+{
+    words.put(base(s), Lit::from_code((UNIT * units - HEAD) as u32));
 }
 
 /// How many literals an entry has.
@@ -93,8 +113,7 @@ pub(crate) fn at(words: &Words, s: Slot, i: usize) -> Lit
     requires place { i < len_in words.now s }
     ensures { result ≡ slice_index (entry_in words.now s).lits i }
 {
-    // So the place is known to be a number of the machine.
-    let _ = words.len();
+    words.recall_limit();
     words.at(base(s) + HEAD + i)
 }
 
@@ -138,8 +157,7 @@ pub(crate) fn swap(words: &mut Words, s: Slot, a: usize, b: usize)
     ensures within { IsWithin s words.old words.new }
     ensures entry { entry_in words.new s ≡ record (entry_in words.old s) { lits = swap (entry_in words.old s).lits a b } }
 {
-    // So the places are known to be numbers of the machine.
-    let _ = words.len();
+    words.recall_limit();
     let at = base(s) + HEAD;
     let x = words.at(at + a);
     let y = words.at(at + b);

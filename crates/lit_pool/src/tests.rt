@@ -97,6 +97,43 @@ fn a_freed_piece_serves_a_later_entry(rt: HostRuntime) -> Result<(), Fail> {
     assert_eq!(rt; pool.lits(d).len(), 4);
     // one unit for a list of at most 4 literals, and 128 for one of 509 to 1,020
     assert_eq!(rt; pool.kinds.len(), 129);
+    assert!(rt; pool.is_live(c));
+    pool.free(c);
+    // 8 units for a list of 60, so 16 of them have the units of the one that was freed
+    let sixty = many(alloc, 60)?;
+    let mut shorter = Vec::new(alloc);
+    for _ in 0..16 {
+        shorter.push(pool.add(&sixty)?)?;
+        assert_eq!(rt; pool.kinds.len(), 129);
+    }
+    for s in &shorter {
+        assert!(rt; pool.is_live(*s) && pool.lits(*s) == sixty.as_slice());
+    }
+    let longest = many(alloc, 20_000)?;
+    let e = pool.add(&longest)?;
+    assert!(rt; pool.lits(e) == longest.as_slice());
+    assert_eq!(rt; pool.kinds.len(), 129 + 4096);
+    Ok(())
+}
+
+#[test]
+fn freed_pieces_side_by_side_serve_a_long_entry(rt: HostRuntime) -> Result<(), Fail> {
+    let alloc = rt.alloc();
+    let mut pool = Pool::new(alloc);
+    let one = many(alloc, 1)?;
+    let mut slots = Vec::new(alloc);
+    for _ in 0..128 {
+        slots.push(pool.add(&one)?)?;
+    }
+    for s in &slots {
+        assert!(rt; pool.is_live(*s));
+        pool.free(*s);
+    }
+    // the first block has places for 128 units, and each of them is a freed piece of its own
+    let long = many(alloc, 900)?;
+    let s = pool.add(&long)?;
+    assert!(rt; pool.lits(s) == long.as_slice());
+    assert_eq!(rt; pool.kinds.len(), 128);
     Ok(())
 }
 

@@ -11,6 +11,9 @@ use std::marker::Model;
 // How many words the first block has places for, or more.
 const LEAST_ROOM: usize = 1024;
 
+// No block has places for more words. All slots together name fewer.
+const MOST_ROOM: usize = 1_099_511_627_775;
+
 /// A block, with the right to give it back.
 pub(crate) struct Held {
     pub(crate) block: Block,
@@ -76,6 +79,14 @@ impl Words {
         self.used
     }
 
+    /// Recalls that the places are numbers of the machine. It does nothing.
+    #[inline(always)]
+    pub(crate) fn recall_limit(&self)
+        ensures { length self.now < 2 ^ 64 }
+    {
+        let _used = self.used;
+    }
+
     /// The word at a place.
     #[inline(always)]
     pub(crate) fn at(&self, i: usize) -> Lit
@@ -109,8 +120,14 @@ impl Words {
         &self.all()[from..from + count]
     }
 
+    /// Whether the block has places for so many words.
+    pub(crate) fn has_places(&self, end: usize) -> bool {
+        end <= Words::places(&self.held)
+    }
+
     /// Makes the table so long, where it is shorter, by words of the default literal. Where memory is wanting it stays.
     pub(crate) fn extend_to(&mut self, end: usize) -> Result<(), AllocError>
+        requires { end < 2 ^ 40 }
         ensures ok { OnOk result (self.new ≡ self.old ++ replicate (end - length self.old) 0) }
         ensures err { OnErr result (self.new ≡ self.old) }
     {
@@ -127,24 +144,19 @@ impl Words {
     /// A block with these words and more places, `end` or more in all.
     #[cold]
     fn longer(&self, end: usize) -> Result<Held, AllocError>
-        requires { length self.now < end }
+        requires longer { length self.now < end }
+        requires limit { end < 2 ^ 40 }
         ensures places { IfOk result (λ held. end ≤ length held.block.items) }
         ensures items { IfOk result (λ held. held.block.items ≡ self.now ++ replicate (length held.block.items - length self.now) 0) }
     {
-        if end > u32::MAX as usize {
-            return Err(AllocError);
-        }
-        let room = end
-            .max(2 * self.used)
-            .max(LEAST_ROOM)
-            .min(u32::MAX as usize);
+        let room = end.max(2 * self.used).max(LEAST_ROOM).min(MOST_ROOM);
         filled(self.alloc, room, self.all())
     }
 
     /// How many places a block has.
     fn places(held: &Option<Held>) -> usize
         ensures places { result ≡ length (items_of held.now) }
-        ensures limit { result < 2 ^ 32 }
+        ensures limit { result < 2 ^ 40 }
     {
         match held {
             Some(held) => held.block.lits().len(),
@@ -180,7 +192,7 @@ fn write(block: &mut Block, words: &[Lit])
 /// A block with places for `room` words, the first of which are given. The others are the default literal.
 fn filled(alloc: Global, room: usize, words: &[Lit]) -> Result<Held, AllocError>
     requires long { length words.now ≤ room }
-    requires limit { room < 2 ^ 32 }
+    requires limit { room < 2 ^ 40 }
     ensures { IfOk result (λ h. h.block.items ≡ words.now ++ replicate (room - length words.now) 0) }
 {
     match Room::new(&alloc, room) {

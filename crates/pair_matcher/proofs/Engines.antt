@@ -11,7 +11,7 @@ use Rattle.session_rules.specs.Logic.{Closes, closes}
 use Rattle.session_rules.proofs.Closing.{Closes-from_closes}
 use Rattle.session_rules.proofs.Rounds.{closes-from_Closes}
 use Rattle.clause_store.specs.Clauses as store
-use Rattle.clause_store.specs.Clauses.{Held, Place, Store}
+use Rattle.clause_store.specs.Clauses.{ClauseEntry, Place, Store}
 use Rattle.propagation.specs.Clauses as seen
 use Rattle.propagation.specs.Clauses.{Clause, clause_of, clauses_of, active, active_at, slot_of}
 use Rattle.propagation.specs.Engine.{EngineView, with_clauses, added_clause, weakened_clause, IsRestored, Grows}
@@ -30,7 +30,7 @@ by_place : (ls : List ℕ) (p : Option Place) → kept (is_some (option_map (λ 
 by_place ls None = refl
 by_place ls (Some p) = refl
 
-by_held : (o : Option Held) → option_map kept_of_clause (option_map clause_of o) ≡ option_map kept_of_held o
+by_held : (o : Option ClauseEntry) → option_map kept_of_clause (option_map clause_of o) ≡ option_map kept_of_held o
 by_held None = refl
 by_held (Some h) = ap Some (by_place h.literals h.place)
 

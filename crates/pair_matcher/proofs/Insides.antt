@@ -9,7 +9,7 @@ use Rattle.lits.specs.Literal.{neg, var}
 use Rattle.lits.specs.Clause.{set_of}
 use Rattle.lits.proofs.Literal.{var-neg}
 use Rattle.lits.proofs.Ascending.{set_of_at}
-use Rattle.clause_store.specs.Clauses.{Held, Store, new_clause}
+use Rattle.clause_store.specs.Clauses.{ClauseEntry, Store, new_clause}
 use Rattle.session_events.specs.State.{State, StandsFor, start, AreReserved, with_reserved}
 use Rattle.side_laws.specs.ClauseStates.{kept, kept_of_held, clauses_of_store, AreWithin}
 use Rattle.side_laws.proofs.Maps.{get-kept_by, empty-kept_by}
@@ -52,7 +52,7 @@ module _ (m : Store) (s : State) (v : ℕ) (h : HasHintRoom m s v) where
   pub negations_within : (ls negations : List ℕ) → negations ≡ map neg ls → AreReserved s ls → (l : ℕ) → Contains negations l → var l ≤ v
   negations_within ls negations e r l k = le_trans (at_below (map neg ls) s.reserved l (below-neg ls s.reserved r) (subst (λ z. Contains z l) e k)) h.events
 
-  pub store_within : (id l : ℕ) (held : Held) → finmap.get m id ≡ Some held → Contains held.literals l → var l ≤ v
+  pub store_within : (id l : ℕ) (held : ClauseEntry) → finmap.get m id ≡ Some held → Contains held.literals l → var l ≤ v
   store_within id l held e k = h.clauses id (kept_of_held held) (get-kept_by kept_of_held m id ∙ ap (option_map kept_of_held) e) l k
 
   pub inside-added : (n : Store) (t : State) (id slot : ℕ) (c : List ℕ) → AreReserved s c → n ≡ finmap.insert m id (new_clause c slot) → t.reserved ≡ s.reserved → HasHintRoom n t v

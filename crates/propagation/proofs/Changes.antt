@@ -13,7 +13,7 @@ use Rattle.lits.specs.Literal.{max_var, var, neg}
 use Rattle.lits.specs.Clause.{set_of}
 use Rattle.session_rules.specs.Logic.{has, is_unit}
 use Rattle.lits.proofs.Members.{here, there, not_in_nil, here_or_there, all_from, has_at, has_from}
-use Rattle.clause_store.specs.Clauses.{Held, Store, slot_at, is_active, is_held, IsFresh, new_clause}
+use Rattle.clause_store.specs.Clauses.{ClauseEntry, Store, slot_at, is_active, is_held, IsFresh, new_clause}
 use Rattle.propagation.specs.declared.TrailEntry.{TrailEntry}
 use Rattle.std.proofs.Common.{◌&&◌, not}
 use Rattle.std.specs.Prelude.{is_none, unwrap_or}
@@ -35,7 +35,7 @@ cases q i = grind arith
 same : (m n : Clauses) → ((q : ℕ) → get m q ≡ get n q) → m ≡ n
 same m n h = same_map nat_cmp_total nat_cmp-IsAntisymmetric m n h
 
-pub clauses_of-insert : (m : Store) (k : ℕ) (h : Held) → clauses_of (insert m k h) ≡ insert (clauses_of m) k (clause_of h)
+pub clauses_of-insert : (m : Store) (k : ℕ) (h : ClauseEntry) → clauses_of (insert m k h) ≡ insert (clauses_of m) k (clause_of h)
 clauses_of-insert m k h = same _ _ (λ q. get-clauses_of (insert m k h) q ∙ elim (cases q k) [
   | inl y ↦ rw (y, get-insert nat_cmp_total, get-insert nat_cmp_total, ties k) refl
   | inr n ↦ rw (get-insert nat_cmp_total, get-insert nat_cmp_total, differs q k n) (sym (get-clauses_of m q))
@@ -53,18 +53,18 @@ clauses_of-empty = same _ _ (λ q. get-clauses_of empty q ∙ ap (option_map cla
 pub get-from_held : (m : Store) (k : ℕ) → is_held m k ≡ false → get m k ≡ None
 get-from_held m k h = by_value (get m k) refl
   where
-    by_value : (o : Option Held) → get m k ≡ o → get m k ≡ None
+    by_value : (o : Option ClauseEntry) → get m k ≡ o → get m k ≡ None
     by_value None e = e
     by_value (Some v) e = let f : is_some (get m k) ≡ true = rw e refl in absurd (both_ways _ h f)
 
 -- an added clause that is taken out again
-pub undone : (m : Store) (k : ℕ) (h : Held) → is_held m k ≡ false → remove (insert m k h) k ≡ m
+pub undone : (m : Store) (k : ℕ) (h : ClauseEntry) → is_held m k ≡ false → remove (insert m k h) k ≡ m
 undone m k h free = same_map nat_cmp_total nat_cmp-IsAntisymmetric _ _ (λ q. elim (cases q k) [
   | inl y ↦ rw (y, get-remove nat_cmp_total, ties k) (sym (get-from_held m k free))
   | inr n ↦ rw (get-remove nat_cmp_total, differs q k n, get-insert nat_cmp_total, differs q k n) refl
 ])
 
-pub is_held-insert : (m : Store) (k q : ℕ) (h : Held) → q ≢ k → is_held (insert m k h) q ≡ is_held m q
+pub is_held-insert : (m : Store) (k q : ℕ) (h : ClauseEntry) → q ≢ k → is_held (insert m k h) q ≡ is_held m q
 is_held-insert m k q h n = rw (get-insert nat_cmp_total, differs q k n) refl
 
 pub is_held-remove : (m : Store) (k q : ℕ) → is_held (remove m k) q ≡ true → is_held m q ≡ true
@@ -208,7 +208,7 @@ value_removed m n e k entries vars (Ok u) v ok =
 value_removed m n e k entries vars (Err f) v ok = ok
 
 -- the deletion that undoes an addition isn't refused
-pub taken_back : (m n back : Store) (k : ℕ) (h : Held) (s : ℕ) (r : Result (Unit {0}) StoreFault) → is_held m k ≡ false → n ≡ insert m k h → option_map (λ p. p.slot) h.place ≡ Some s
+pub taken_back : (m n back : Store) (k : ℕ) (h : ClauseEntry) (s : ℕ) (r : Result (Unit {0}) StoreFault) → is_held m k ≡ false → n ≡ insert m k h → option_map (λ p. p.slot) h.place ≡ Some s
     → IfOk r (λ _. back ≡ remove n k) → IfErr r (λ _. is_active n k ≡ false) → back ≡ m
 taken_back m n back k h s (Ok u) free is at ok err = ok ∙ ap (λ z. remove z k) is ∙ undone m k h free
 taken_back m n back k h s (Err f) free is at ok err =
@@ -263,7 +263,7 @@ asserted e new last k s l ls is first put = put ∙ ap (λ z. with_entry new z (
 pub held_seen : (m : Store) (k : ℕ) → contains_key (clauses_of m) k ≡ is_held m k
 held_seen m k = ap is_some (get-clauses_of m k) ∙ mapped (get m k)
   where
-    mapped : (o : Option Held) → is_some (option_map clause_of o) ≡ is_some o
+    mapped : (o : Option ClauseEntry) → is_some (option_map clause_of o) ≡ is_some o
     mapped None = refl
     mapped (Some h) = refl
 
@@ -298,7 +298,7 @@ weakened_seen m e entries vars k v =
 pub literals_seen : (m : Store) (k : ℕ) → seen.literals_at (clauses_of m) k ≡ held.literals_at m k
 literals_seen m k = ap (λ o. unwrap_or (option_map (λ c. c.literals) o) []) (get-clauses_of m k) ∙ by_value (get m k)
   where
-    by_value : (o : Option Held) → unwrap_or (option_map (λ c. c.literals) (option_map clause_of o)) [] ≡ unwrap_or (option_map (λ h. h.literals) o) []
+    by_value : (o : Option ClauseEntry) → unwrap_or (option_map (λ c. c.literals) (option_map clause_of o)) [] ≡ unwrap_or (option_map (λ h. h.literals) o) []
     by_value None = refl
     by_value (Some h) = refl
 
@@ -328,16 +328,16 @@ free_seen m e entries vars k v = sym (ap (λ z. contains_key z.clauses k) v) ∙
 pub held_if_active : (m : Store) (k : ℕ) → is_active m k ≡ true → is_held m k ≡ true
 held_if_active m k a = by_value (get m k) refl
   where
-    by_value : (o : Option Held) → get m k ≡ o → is_held m k ≡ true
+    by_value : (o : Option ClauseEntry) → get m k ≡ o → is_held m k ≡ true
     by_value None g = let f : is_active m k ≡ false = rw g refl in absurd (both_ways _ f a)
     by_value (Some h) g = rw g refl
 
 -- ---- A clause weakened
 
-pub clauses_of-weakened : (m n : Store) (k : ℕ) → n ≡ insert m k (held.weakened_clause (held.literals_at m k)) → clauses_of n ≡ insert (clauses_of m) k (weakened_clause (seen.literals_at (clauses_of m) k))
-clauses_of-weakened m n k e = ap clauses_of e ∙ clauses_of-insert m k (held.weakened_clause (held.literals_at m k)) ∙ ap (λ z. insert (clauses_of m) k (weakened_clause z)) (sym (literals_seen m k))
+pub clauses_of-weakened : (m n : Store) (k : ℕ) → n ≡ insert m k (held.weakened_clause (held.literals_at m k) (held.kept_at m k)) → clauses_of n ≡ insert (clauses_of m) k (weakened_clause (seen.literals_at (clauses_of m) k))
+clauses_of-weakened m n k e = ap clauses_of e ∙ clauses_of-insert m k (held.weakened_clause (held.literals_at m k) (held.kept_at m k)) ∙ ap (λ z. insert (clauses_of m) k (weakened_clause z)) (sym (literals_seen m k))
 
-pub value_weakened : (m n : Store) (e : EngineView) (k : ℕ) (entries : List TrailEntry) (vars : ℕ) (r : Result (Unit {0}) StoreFault) → engine_of m entries vars ≡ e → IfOk r (λ _. n ≡ insert m k (held.weakened_clause (held.literals_at m k)))
+pub value_weakened : (m n : Store) (e : EngineView) (k : ℕ) (entries : List TrailEntry) (vars : ℕ) (r : Result (Unit {0}) StoreFault) → engine_of m entries vars ≡ e → IfOk r (λ _. n ≡ insert m k (held.weakened_clause (held.literals_at m k) (held.kept_at m k)))
     → IfOk r (λ _. engine_of n entries vars ≡ with_clauses e (insert e.clauses k (weakened_clause (seen.literals_at e.clauses k))))
 value_weakened m n e k entries vars (Ok u) v ok =
     (λ i. record { clauses = clauses_of-weakened m n k ok i; trail = entries; vars = vars }) ∙ ap (λ z. with_clauses z (insert z.clauses k (weakened_clause (seen.literals_at z.clauses k)))) v

@@ -9,7 +9,7 @@ use Rattle.std.specs.Cmp.{nat_cmp_total, unsigned_tied}
 use Rattle.std.specs.FinMap.{get, entries, find, keys, get-entries, get-from_entries, contains_key-keys}
 use Rattle.session_rules.specs.Logic.{has, is_falsified, is_unit}
 use Rattle.lits.proofs.Members.{here, there, not_in_nil, here_or_there, all_at, all_from, has_at, has_from}
-use Rattle.clause_store.specs.Clauses.{Held, Place, Store, slot_at, lits_at, IsStore}
+use Rattle.clause_store.specs.Clauses.{ClauseEntry, Place, Store, slot_at, lits_at, IsStore}
 use Rattle.lits.specs.Clause.{set_of}
 use Rattle.lits.proofs.Ascending.{has-set_of}
 use Rattle.propagation.specs.Clauses.{Clause, Clauses, clause_of, clauses_of, slot_of, active_at, active_among, with_clause, active}
@@ -47,7 +47,7 @@ quiet_same trues ls ms s h = record {
 
 -- ---- The map
 
-find-map : (es : List (ℕ × Held)) (q : ℕ) → find nat_cmp q (map (λ e. (e.0, clause_of e.1)) es) ≡ option_map clause_of (find nat_cmp q es)
+find-map : (es : List (ℕ × ClauseEntry)) (q : ℕ) → find nat_cmp q (map (λ e. (e.0, clause_of e.1)) es) ≡ option_map clause_of (find nat_cmp q es)
 find-map [] q = refl
 find-map (e ∷ es) q = elim (cases_Bool (eq_by_cmp nat_cmp q e.0)) [
   | inl y ↦ rw y refl
@@ -58,7 +58,7 @@ pub get-clauses_of : (m : Store) (q : ℕ) → get (clauses_of m) q ≡ option_m
 unfolding clauses_of
 get-clauses_of m q = get-from_entries nat_cmp_total _ q ∙ find-map (entries m) q ∙ ap (option_map clause_of) (sym (get-entries m q))
 
-mapped_slot : (o : Option Held) → option_and_then (λ c. c.slot) (option_map clause_of o) ≡ option_map (λ p. p.slot) (option_and_then (λ h. h.place) o)
+mapped_slot : (o : Option ClauseEntry) → option_and_then (λ c. c.slot) (option_map clause_of o) ≡ option_map (λ p. p.slot) (option_and_then (λ h. h.place) o)
 mapped_slot None = refl
 mapped_slot (Some h) = refl
 
@@ -72,7 +72,7 @@ pub record Active (m : Store) (id s : ℕ) : Type 0 where
   pub slot : slot_of (clauses_of m) id ≡ Some s
   pub same : SameMembers (lits_at m id) lits
 
-active-held : (m : Store) (id s : ℕ) → IsStore m → slot_at m id ≡ Some s → (o : Option Held) → get m id ≡ o → Active m id s
+active-held : (m : Store) (id s : ℕ) → IsStore m → slot_at m id ≡ Some s → (o : Option ClauseEntry) → get m id ≡ o → Active m id s
 active-held m id s k e None g = let f : slot_at m id ≡ None = rw g refl in absurd (none-some s (sym f ∙ e))
 active-held m id s k e (Some h) g = active-place h.place refl
   where

@@ -11,7 +11,7 @@ use Rattle.std.specs.List.{filter}
 use Rattle.lits.proofs.Members.{filter_from, has_at, has_from}
 use Rattle.std.proofs.lemmas.Bool.{ltb-false}
 use Rattle.clause_store.specs.Clauses as held
-use Rattle.clause_store.specs.Clauses.{Held, Store, IsStore, IsOnce, slot_at, lits_at}
+use Rattle.clause_store.specs.Clauses.{ClauseEntry, Store, IsStore, IsOnce, slot_at, lits_at}
 use Rattle.watch_lists.proofs.Members.{has-here, has-there, member_cases, unlike}
 use Rattle.watch_lists.proofs.FirstTwo.{once-lits, has-first, has-second, firsts-apart}
 use Rattle.watch_lists.proofs.Placed.{lits-literals}
@@ -84,7 +84,7 @@ record SameBut (m n : Store) (id : ℕ) : Type 0 where
   pub slots : (q : ℕ) → q ≢ id → slot_at n q ≡ slot_at m q
   pub lists : (q : ℕ) → q ≢ id → lits_at n q ≡ lits_at m q
 
-same_insert : (m n : Store) (id : ℕ) (h : Held) → n ≡ insert m id h → SameBut m n id
+same_insert : (m n : Store) (id : ℕ) (h : ClauseEntry) → n ≡ insert m id h → SameBut m n id
 same_insert m n id h e = record {
   slots = λ q o. subst (λ z. slot_at z q ≡ slot_at m q) (sym e) (rw (get-insert nat_cmp_total, differs q id o) refl);
   lists = λ q o. subst (λ z. lits_at z q ≡ lits_at m q) (sym e) (rw (get-insert nat_cmp_total, differs q id o) refl);
@@ -96,7 +96,7 @@ same_remove m n id e = record {
   lists = λ q o. subst (λ z. lits_at z q ≡ lits_at m q) (sym e) (rw (get-remove nat_cmp_total, differs q id o) refl);
 }
 
-pub heads_pushed : (m n : Store) (ts : List ℕ) (h s : ℕ) (ids : List ℕ) (id : ℕ) (c : Held) → n ≡ insert m id c → AreHeads m ts h ids s → AreHeads n ts h (ids ++ id ∷ []) s
+pub heads_pushed : (m n : Store) (ts : List ℕ) (h s : ℕ) (ids : List ℕ) (id : ℕ) (c : ClauseEntry) → n ≡ insert m id c → AreHeads m ts h ids s → AreHeads n ts h (ids ++ id ∷ []) s
 heads_pushed m n ts h s ids id c e k = let x = same_insert m n id c e in record {
   head_in = k.head_in;
   ids_in = let le = k.ids_in in omega (arith, le, length-append ids (id ∷ []));
@@ -173,7 +173,7 @@ pub heads_removed : (m n : Store) (ts : List ℕ) (h s : ℕ) (ids : List ℕ) (
 heads_removed m n ts h s ids id e k = let x = same_remove m n id e in
     heads_fewer m n ts h s ids id x.slots x.lists (subst (λ z. slot_at z id ≡ None) (sym e) (rw (get-remove nat_cmp_total, ties id) refl)) k
 
-pub heads_weakened : (m n : Store) (ts : List ℕ) (h s : ℕ) (ids : List ℕ) (id : ℕ) → n ≡ insert m id (held.weakened_clause (held.literals_at m id)) → AreHeads m ts h ids s → AreHeads n ts h ids s
+pub heads_weakened : (m n : Store) (ts : List ℕ) (h s : ℕ) (ids : List ℕ) (id : ℕ) → n ≡ insert m id (held.weakened_clause (held.literals_at m id) (held.kept_at m id)) → AreHeads m ts h ids s → AreHeads n ts h ids s
 heads_weakened m n ts h s ids id e k = let x = same_insert m n id _ e in
     heads_fewer m n ts h s ids id x.slots x.lists (subst (λ z. slot_at z id ≡ None) (sym e) (rw (get-insert nat_cmp_total, ties id) refl)) k
 

@@ -8,7 +8,7 @@ use Rattle.lits.specs.Literal.{var, neg}
 use Rattle.lits.specs.Clause.{set_of, with_literal}
 use Rattle.lits.proofs.Members.{has_at, all_at}
 use Rattle.session_rules.specs.Logic.{has, is_unit}
-use Rattle.clause_store.specs.Clauses.{Held, Place, Store, IsStore, IsActiveWith, slot_at, lits_at}
+use Rattle.clause_store.specs.Clauses.{ClauseEntry, Place, Store, IsStore, IsActiveWith, slot_at, lits_at}
 use Rattle.watch_lists.specs.Watched.{Watched}
 use Rattle.propagation.specs.declared.TrailEntry.{TrailEntry}
 use Rattle.propagation.specs.declared.Heads.{Heads}
@@ -121,21 +121,21 @@ inside_rested w a b head ids pending_head levels room id l s h level was unit is
 
 -- ---- Clauses that are found by their sets
 
-found_by : (o : Option Held) (set : List ℕ) → is_some (option_map (λ (p : Place). p.slot) (option_and_then (λ (h : Held). h.place) o)) ≡ true → unwrap_or (option_map (λ (h : Held). h.literals) o) [] ≡ set
+found_by : (o : Option ClauseEntry) (set : List ℕ) → is_some (option_map (λ (p : Place). p.slot) (option_and_then (λ (h : ClauseEntry). h.place) o)) ≡ true → unwrap_or (option_map (λ (h : ClauseEntry). h.literals) o) [] ≡ set
     → option_and_then if_active (option_map clause_of o) ≡ Some set
 found_by None set on is = cc on
 found_by (Some h) set on is = by_place h.place on
   where
-    by_place : (p : Option Place) → is_some (option_map (λ (q : Place). q.slot) p) ≡ true → if_active (clause_of (record { literals = h.literals; place = p })) ≡ Some set
+    by_place : (p : Option Place) → is_some (option_map (λ (q : Place). q.slot) p) ≡ true → if_active (clause_of (record { literals = h.literals; slot = h.slot; place = p })) ≡ Some set
     by_place None f = cc f
     by_place (Some q) f = ap Some is
 
-with_set : (o : Option Held) (set : List ℕ) → option_and_then if_active (option_map clause_of o) ≡ Some set
-    → (is_some (option_map (λ (p : Place). p.slot) (option_and_then (λ (h : Held). h.place) o)) ≡ true) × (unwrap_or (option_map (λ (h : Held). h.literals) o) [] ≡ set)
+with_set : (o : Option ClauseEntry) (set : List ℕ) → option_and_then if_active (option_map clause_of o) ≡ Some set
+    → (is_some (option_map (λ (p : Place). p.slot) (option_and_then (λ (h : ClauseEntry). h.place) o)) ≡ true) × (unwrap_or (option_map (λ (h : ClauseEntry). h.literals) o) [] ≡ set)
 with_set None set e = cc e
 with_set (Some h) set e = by_place h.place e
   where
-    by_place : (p : Option Place) → if_active (clause_of (record { literals = h.literals; place = p })) ≡ Some set → (is_some (option_map (λ (q : Place). q.slot) p) ≡ true) × (h.literals ≡ set)
+    by_place : (p : Option Place) → if_active (clause_of (record { literals = h.literals; slot = h.slot; place = p })) ≡ Some set → (is_some (option_map (λ (q : Place). q.slot) p) ≡ true) × (h.literals ≡ set)
     by_place None f = cc f
     by_place (Some q) f = (refl, same_Some _ _ f)
 

@@ -6,7 +6,7 @@ use Rattle.std.proofs.lemmas.List.Edits.{length-swap}
 use Rattle.std.specs.Cmp.{nat_cmp_total}
 use Rattle.std.specs.FinMap.{get, insert, same_map, get-insert, nat_cmp-IsAntisymmetric}
 use Rattle.session_rules.specs.Logic.{has}
-use Rattle.clause_store.specs.Clauses.{Held, Place, Store, slot_at, lits_at, literals_at, clause_at, swapped, with_place, with_swap}
+use Rattle.clause_store.specs.Clauses.{ClauseEntry, Place, Store, slot_at, lits_at, literals_at, clause_at, swapped, with_place, with_swap}
 use Rattle.watch_lists.specs.Watched.{Watched, IsWatched}
 use Rattle.watch_lists.proofs.Members.{differs}
 use Rattle.watch_lists.proofs.Placed.{active, lits-literals}
@@ -18,7 +18,7 @@ use Rattle.propagation.proofs.Changes.{clauses_of-insert, cases, ties, differs a
 
 -- ---- What is seen of an exchange
 
-same_seen : (h : Held) (p : Place) (a b : ℕ) → h.place ≡ Some p → clause_of (with_place (swapped a b) h) ≡ clause_of h
+same_seen : (h : ClauseEntry) (p : Place) (a b : ℕ) → h.place ≡ Some p → clause_of (with_place (swapped a b) h) ≡ clause_of h
 same_seen h p a b e = rw e refl
 
 pub seen-swap : (m : Store) (id s a b : ℕ) → slot_at m id ≡ Some s → clauses_of (with_swap m id a b) ≡ clauses_of m

@@ -6,7 +6,7 @@ use Rattle.std.proofs.lemmas.Bool.{cases_Bool, both_ways, and_parts, and_from, o
 use Rattle.lits.specs.Literal.{neg}
 use Rattle.session_rules.specs.Logic.{has, is_falsified, is_unit}
 use Rattle.lits.proofs.Members.{here, there, not_in_nil, here_or_there, all_at}
-use Rattle.clause_store.specs.Clauses.{Held, Store, slot_at, lits_at, is_held, IsStore}
+use Rattle.clause_store.specs.Clauses.{ClauseEntry, Store, slot_at, lits_at, is_held, IsStore}
 use Rattle.std.specs.FinMap.{get}
 use Rattle.propagation.specs.Clauses.{clauses_of, slot_of, active_at}
 use Rattle.propagation.specs.Engine.{IsQuiet, IsReason}
@@ -73,7 +73,7 @@ done_none m id trues e = λ c at. let r = slot_if_active (clauses_of m) id c at 
 pub active_if_seen : (m : Store) (id : ℕ) (c : List ℕ) → active_at (clauses_of m) id ≡ Some c → is_held m id ≡ true
 active_if_seen m id c at = let r = slot_if_active (clauses_of m) id c at in by_value (get m id) refl (sym (slot_of-clauses_of m id) ∙ r.1)
   where
-    by_value : (o : Option Held) {s : ℕ} → get m id ≡ o → slot_at m id ≡ Some s → is_held m id ≡ true
+    by_value : (o : Option ClauseEntry) {s : ℕ} → get m id ≡ o → slot_at m id ≡ Some s → is_held m id ≡ true
     by_value None g f = let e : slot_at m id ≡ None = rw g refl in absurd (none-some _ (sym e ∙ f))
     by_value (Some h) g f = rw g refl
 

@@ -4,7 +4,7 @@ use Rattle.std.specs.Prelude.{ℕ, Bool, List, [], ◌∷◌, map, Option, None,
 use Rattle.std.specs.Ordering.{nat_cmp}
 use Rattle.std.specs.FinMap as finmap
 use Rattle.std.specs.Coded.{Coded, code_by, coded×, coded_list, coded_option, coded_ℕ}
-use Rattle.clause_store.specs.Clauses.{Held, Store}
+use Rattle.clause_store.specs.Clauses.{ClauseEntry, Store}
 
 -- a clause: its literal set as the ascending list, and its slot, which it has where it is active
 pub record Clause : Type 0 where
@@ -20,7 +20,7 @@ abbrev pub Clauses : Type 0
 Clauses = finmap.FinMap nat_cmp Clause
 
 -- what is seen of a clause of the store
-abbrev pub clause_of : Held → Clause
+abbrev pub clause_of : ClauseEntry → Clause
 clause_of h = record { literals = h.literals; slot = option_map (λ p. p.slot) h.place }
 
 -- what is seen of a store

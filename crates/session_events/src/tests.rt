@@ -1,29 +1,31 @@
 // A session's events in their order, and what each broken rule names.
 
 ghost use Rattle.std.specs.Prelude.{◌≡◌, ◌≤◌, IfOk};
-ghost use Rattle.lits.specs.Literal.{max_var, var};
+ghost use Rattle.lits.specs.Literal.{max_file_var, var};
 
 use crate::{Events, Kind};
-use lits::{Lit, MAX_VAR};
+use lits::{Lit, MAX_FILE_VAR};
 use session_rules::{Event, Phase, Rule, StatusWord};
 use std::alloc::{AllocError, Global};
 use std::test::Fail;
 
 // The literal of a number, or the default for a number that has none.
 fn lit(n: i64) -> Lit
-    ensures { var result ≤ max_var }
+    ensures { var result ≤ max_file_var }
 {
     let l = Lit::new(n).unwrap_or(Lit::default());
-    let _ = l.var();
+    if l.var() > MAX_FILE_VAR {
+        return Lit::default();
+    }
     l
 }
 
 // Behind the inputs `1 2` and `-1 3` and the query `2 -4`.
 fn asked(alloc: Global) -> Result<Events, AllocError>
-    ensures { IfOk result (λ e. e.reserved ≡ max_var) }
+    ensures { IfOk result (λ e. e.reserved ≡ max_file_var) }
 {
     let mut events = Events::new(alloc);
-    events.reserve(MAX_VAR)?;
+    events.reserve(MAX_FILE_VAR)?;
     events.take_input(&[lit(1), lit(2)])?;
     events.take_input(&[lit(-1), lit(3)])?;
     events.take_query(&[lit(2), lit(-4)])?;

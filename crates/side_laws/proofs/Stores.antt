@@ -7,7 +7,7 @@ use Rattle.lits.specs.Literal.{var}
 use Rattle.lits.specs.Clause.{set_of}
 use Rattle.session_rules.specs.Own as own
 use Rattle.clause_store.specs.Clauses as store
-use Rattle.clause_store.specs.Clauses.{Held, Place, Store, slot_at, literals_at, is_held}
+use Rattle.clause_store.specs.Clauses.{ClauseEntry, Place, Store, slot_at, literals_at, is_held}
 use Rattle.side_laws.specs.ClauseStates.{ClauseState, Clauses, kept, kept_of_held, clauses_of_store, standing_of, active_literals, active_in, AreWithin, ChangesAt}
 use Rattle.side_laws.proofs.Maps.{get-kept_by, empty-kept_by, changes-insert, changes-remove, same_or_other}
 
@@ -15,7 +15,7 @@ active_by_place : (ls : List ℕ) (p : Option Place) → is_some (option_map (λ
 active_by_place ls None = refl
 active_by_place ls (Some p) = refl
 
-active_by : (o : Option Held) → is_some (option_map (λ (q : Place). q.slot) (option_and_then (λ (h : Held). h.place) o)) ≡ own.is_active (standing_of (option_map kept_of_held o))
+active_by : (o : Option ClauseEntry) → is_some (option_map (λ (q : Place). q.slot) (option_and_then (λ (h : ClauseEntry). h.place) o)) ≡ own.is_active (standing_of (option_map kept_of_held o))
 active_by None = refl
 active_by (Some h) = active_by_place h.literals h.place
 
@@ -23,7 +23,7 @@ weakened_by_place : (ls : List ℕ) (p : Option Place) → not (is_some (option_
 weakened_by_place ls None = refl
 weakened_by_place ls (Some p) = refl
 
-weakened_by : (o : Option Held) → is_some o && not (is_some (option_map (λ (q : Place). q.slot) (option_and_then (λ (h : Held). h.place) o))) ≡ own.is_weakened (standing_of (option_map kept_of_held o))
+weakened_by : (o : Option ClauseEntry) → is_some o && not (is_some (option_map (λ (q : Place). q.slot) (option_and_then (λ (h : ClauseEntry). h.place) o))) ≡ own.is_weakened (standing_of (option_map kept_of_held o))
 weakened_by None = refl
 weakened_by (Some h) = weakened_by_place h.literals h.place
 
@@ -31,7 +31,7 @@ absent_by_place : (ls : List ℕ) (b : Bool) → false ≡ own.is_absent (standi
 absent_by_place ls true = refl
 absent_by_place ls false = refl
 
-absent_by : (o : Option Held) → not (is_some o) ≡ own.is_absent (standing_of (option_map kept_of_held o))
+absent_by : (o : Option ClauseEntry) → not (is_some o) ≡ own.is_absent (standing_of (option_map kept_of_held o))
 absent_by None = refl
 absent_by (Some h) = absent_by_place h.literals (is_some h.place)
 
@@ -46,7 +46,7 @@ pub absent-store : (m : Store) (id : ℕ) → not (is_held m id) ≡ own.is_abse
 absent-store m id = absent_by (get m id) ∙ ap (λ o. own.is_absent (standing_of o)) (sym (get-kept_by kept_of_held m id))
 
 -- what is kept of an id with this standing
-kept_active : (o : Option Held) → own.is_active (standing_of (option_map kept_of_held o)) ≡ true → option_map kept_of_held o ≡ Some (kept true (unwrap_or (option_map (λ (h : Held). h.literals) o) []))
+kept_active : (o : Option ClauseEntry) → own.is_active (standing_of (option_map kept_of_held o)) ≡ true → option_map kept_of_held o ≡ Some (kept true (unwrap_or (option_map (λ (h : ClauseEntry). h.literals) o) []))
 kept_active None e = cc e
 kept_active (Some h) e = by_place (is_some h.place) e
   where
@@ -54,7 +54,7 @@ kept_active (Some h) e = by_place (is_some h.place) e
     by_place true e = refl
     by_place false e = cc e
 
-kept_weakened : (o : Option Held) → own.is_weakened (standing_of (option_map kept_of_held o)) ≡ true → option_map kept_of_held o ≡ Some (kept false (unwrap_or (option_map (λ (h : Held). h.literals) o) []))
+kept_weakened : (o : Option ClauseEntry) → own.is_weakened (standing_of (option_map kept_of_held o)) ≡ true → option_map kept_of_held o ≡ Some (kept false (unwrap_or (option_map (λ (h : ClauseEntry). h.literals) o) []))
 kept_weakened None e = cc e
 kept_weakened (Some h) e = by_place (is_some h.place) e
   where
@@ -76,17 +76,17 @@ store_added m n id s c e = changes-insert kept_of_held m n id (store.new_clause 
 pub store_deleted : (m n : Store) (id : ℕ) → n ≡ finmap.remove m id → ChangesAt (clauses_of_store m) (clauses_of_store n) id None
 store_deleted m n id e = changes-remove kept_of_held m n id e
 
-pub store_weakened : (m n : Store) (id : ℕ) (ls : List ℕ) → n ≡ finmap.insert m id (store.weakened_clause ls) → ChangesAt (clauses_of_store m) (clauses_of_store n) id (Some (kept false ls))
-store_weakened m n id ls e = changes-insert kept_of_held m n id (store.weakened_clause ls) e
+pub store_weakened : (m n : Store) (id : ℕ) (ls : List ℕ) (s : ℕ) → n ≡ finmap.insert m id (store.weakened_clause ls s) → ChangesAt (clauses_of_store m) (clauses_of_store n) id (Some (kept false ls))
+store_weakened m n id ls s e = changes-insert kept_of_held m n id (store.weakened_clause ls s) e
 
 pub store_restored : (m n : Store) (id : ℕ) → store.IsRestored m id n → ChangesAt (clauses_of_store m) (clauses_of_store n) id (Some (kept true (literals_at m id)))
 store_restored m n id r = changes-insert kept_of_held m n id (store.active_clause (literals_at m id) r.lits r.slot) r.changed
 
 -- the active clauses by id are those that the hint rule takes
-pub active_in-store : (m : Store) (id : ℕ) → option_and_then (λ (h : Held). if is_some h.place then Some h.literals else None) (get m id) ≡ active_in (clauses_of_store m) id
+pub active_in-store : (m : Store) (id : ℕ) → option_and_then (λ (h : ClauseEntry). if is_some h.place then Some h.literals else None) (get m id) ≡ active_in (clauses_of_store m) id
 active_in-store m id = by_held (get m id) ∙ ap active_literals (sym (get-kept_by kept_of_held m id))
   where
-    by_held : (o : Option Held) → option_and_then (λ (h : Held). if is_some h.place then Some h.literals else None) o ≡ active_literals (option_map kept_of_held o)
+    by_held : (o : Option ClauseEntry) → option_and_then (λ (h : ClauseEntry). if is_some h.place then Some h.literals else None) o ≡ active_literals (option_map kept_of_held o)
     by_held None = refl
     by_held (Some h) = refl
 

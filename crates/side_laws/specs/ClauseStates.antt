@@ -6,7 +6,7 @@ use Rattle.std.specs.Coded.{Coded, code_by, coded×, coded_bool, coded_list, cod
 use Rattle.session_rules.specs.declared.Standing.{Standing}
 use Rattle.session_rules.specs.declared.Standing.TheVariants.{Active, Weakened, Absent}
 use Rattle.lits.specs.Literal.{var}
-use Rattle.clause_store.specs.Clauses.{Held, Store}
+use Rattle.clause_store.specs.Clauses.{ClauseEntry, Store}
 
 -- a clause: whether it is active, else it is weakened, and its literal set as the ascending list
 pub record ClauseState : Type 0 where
@@ -33,7 +33,7 @@ unfoldable pub kept_by : {X : Type 0} → (X → ClauseState) → finmap.FinMap 
 kept_by view m = finmap.from_entries (map (λ e. (e.0, view e.1)) (finmap.entries m))
 
 -- what is seen of a clause of a store
-abbrev pub kept_of_held : Held → ClauseState
+abbrev pub kept_of_held : ClauseEntry → ClauseState
 kept_of_held h = kept (is_some h.place) h.literals
 
 -- the clauses of a store

@@ -112,6 +112,7 @@ module _ (m : Store) (rows new : List RowView) (l i b : ℕ) (c : Blocks m rows 
       blockers = blockers-now n.kept.blockers;
       reserved = λ q k h. subst (λ z. k < z) (sym long) (n.kept.reserved q k h);
       fits = n.kept.fits;
+      keeps = n.kept.keeps;
       rooms = λ k. subst (HasRoom m k) (sym (counts k)) (n.kept.rooms k);
     };
     vars_is = long ∙ n.vars_is;

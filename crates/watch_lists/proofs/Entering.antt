@@ -3,7 +3,7 @@ use Rattle.std.proofs.Common.{◌≡◌, ◌≢◌, ℕ, ◌+◌, ◌*◌, ◌<�
 use Rattle.std.specs.Prelude.{slice_index, slice_set}
 use Rattle.std.proofs.lemmas.Bool.{cases_Bool, both_ways}
 use Rattle.lits.specs.Clause.{has}
-use Rattle.clause_store.specs.Clauses.{Store, slot_at}
+use Rattle.clause_store.specs.Clauses.{Store, slot_at, kept_at}
 use Rattle.watch_lists.specs.Watch.{WatchView, node_at, node_of}
 use Rattle.watch_lists.specs.Lists.{RowView, row_at, watches_at, count_at, with_watches, put_places, id_at, lits_of, IsWatching, IsHere, nobody, AreListed, AreKept}
 use Rattle.watch_lists.proofs.Members.{differs}
@@ -21,6 +21,7 @@ module _ (m : Store) (rows : List RowView) (places : List ℕ) (s : ℕ) (kept :
     blockers = kept.blockers;
     reserved = kept.reserved;
     fits = kept.fits;
+    keeps = kept.keeps;
     rooms = kept.rooms;
   }
     where
@@ -158,5 +159,6 @@ module _ (m : Store) (rows : List RowView) (places : List ℕ) (s : ℕ) (kept :
               (entries_put (λ l g. has (lits_of m g.slot) g.blocker ≡ true) rows rows1 one e puts1 ((λ i. has (lits_of m (e_slot i)) (e_blocker i)) ∙ has-two) kept.blockers);
           reserved = λ q l h. subst (λ z. l < z) (sym rows-long) (kept.reserved q l h);
           fits = λ q t h. subst (λ z. node_at t 1 < z) (sym long2) (kept.fits q t h);
+          keeps = λ q h. subst (λ z. node_at (kept_at m q) 1 < z) (sym long2) (kept.keeps q h);
           rooms = λ l. room-same m m l _ _ (λ q. refl) (puts_count rows1 rows2 two f puts2 l ∙ puts_count rows rows1 one e puts1 l) (kept.rooms l);
         }

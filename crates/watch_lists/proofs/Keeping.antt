@@ -2,17 +2,17 @@
 use Rattle.std.proofs.Common.{◌≡◌, ℕ, ◌-◌, ◌<◌, ◌≤◌, List, [], ◌∷◌, length, Some, None, refl, sym, ap, ◌∙◌, subst, inl, inr, arith, cond, true, false, Bool, nat_eq, eqb-true, eq-eqb}
 use Rattle.std.specs.Prelude.{slice_index, option_map, option_and_then, unwrap_or}
 use Rattle.std.proofs.lemmas.Option.{same_Some, none-some}
-use Rattle.std.proofs.lemmas.Bool.{cases_Bool, both_ways}
+use Rattle.std.proofs.lemmas.Bool.{cases_Bool, both_ways, and_parts}
 use Rattle.std.specs.FinMap.{get, insert, remove}
 use Rattle.lits.specs.Clause.{has, set_of}
-use Rattle.clause_store.specs.Clauses.{Held, Store, IsOnce, IsStore, IsRestored, is_weakened, slot_at, place_at, lits_at, literals_at, active_clause, weakened_clause}
+use Rattle.clause_store.specs.Clauses.{ClauseEntry, Store, IsOnce, IsStore, IsRestored, is_weakened, slot_at, kept_at, place_at, lits_at, literals_at, active_clause, weakened_clause}
 use Rattle.clause_store.proofs.Stored.{get_cut, set_of_set}
 use Rattle.watch_lists.specs.Watch.{node_at}
 use Rattle.watch_lists.specs.Watched.{entry_at}
-use Rattle.watch_lists.specs.Lists.{RowView, watches_at, count_at, id_at, lits_of, place_in, IsHere, nobody, AreListed, AreBlockers, HasRoom, AreKept, AreRaised, AreLowered}
+use Rattle.watch_lists.specs.Lists.{RowView, watches_at, count_at, id_at, lits_of, place_in, HavePlaces, IsHere, nobody, AreListed, AreBlockers, HasRoom, AreKept, AreRaised, AreLowered}
 use Rattle.watch_lists.proofs.Members.{has-here, has-there, member_cases, differs}
 use Rattle.watch_lists.proofs.Placed.{active, id_at-slot, id_at-is, lits-literals, store-with, store-without}
-use Rattle.watch_lists.proofs.Putting.{Puts, puts-restored, place-put, literals-put, slot-put}
+use Rattle.watch_lists.proofs.Putting.{Puts, puts-restored, places-put, places-cut, held-active, place-put, literals-put, slot-put}
 use Rattle.watch_lists.proofs.Listing.{listed_same}
 
 -- ---- The same lists in other rows, and other tables
@@ -56,6 +56,7 @@ kept_rows away m rows new places k long e rooms = record {
   blockers = blockers_rows m rows new e k.blockers;
   reserved = λ q l h. let r = k.reserved q l h in omega arith;
   fits = k.fits;
+  keeps = k.keeps;
   rooms = rooms;
 }
 
@@ -66,6 +67,7 @@ kept_places away m rows places new k longer e = record {
   blockers = k.blockers;
   reserved = k.reserved;
   fits = λ q s h. let f = k.fits q s h in omega arith;
+  keeps = λ q h. let f = k.keeps q h in omega arith;
   rooms = k.rooms;
 }
 
@@ -139,19 +141,20 @@ module _ (m n : Store) (id s : ℕ) (b : Beside m n id s) where
       )
 
   -- the clause has left the store, whose entries stood in no list
-  pub kept_less : (rows : List RowView) (places : List ℕ) → AreKept (nat_eq s) m rows places → ((q l : ℕ) → has (literals_at n q) l ≡ true → has (literals_at m q) l ≡ true) → ((l : ℕ) → HasRoom n l (count_at rows l)) → AreKept nobody n rows places
-  kept_less rows places k within rooms = record {
+  pub kept_less : (rows : List RowView) (places : List ℕ) → AreKept (nat_eq s) m rows places → ((q l : ℕ) → has (literals_at n q) l ≡ true → has (literals_at m q) l ≡ true) → HavePlaces n places → ((l : ℕ) → HasRoom n l (count_at rows l)) → AreKept nobody n rows places
+  kept_less rows places k within keeps rooms = record {
     stored = b.stored_less;
     listed = listed_same (IsHere (nat_eq s) m) (IsHere nobody n) rows places here_to here_from k.listed;
     blockers = λ l i lt. let h = k.listed.back l i lt in subst (λ ls. has ls (entry_at (watches_at rows l) i).blocker ≡ true) (sym (lits_less (entry_at (watches_at rows l) i).slot h.1 h.0.slot)) (k.blockers l i lt);
     reserved = λ q l h. k.reserved q l (within q l h);
     fits = λ q t e. k.fits q t (slot_more q t e);
+    keeps = keeps;
     rooms = rooms;
   }
 
   -- the clause has come into the store, and isn't in the lists yet
-  pub kept_more : (rows : List RowView) (places : List ℕ) → AreKept nobody n rows places → ((q l : ℕ) → has (literals_at m q) l ≡ true → l < length rows) → node_at s 1 < length places → ((l : ℕ) → HasRoom m l (count_at rows l)) → AreKept (nat_eq s) m rows places
-  kept_more rows places k within fits rooms = record {
+  pub kept_more : (rows : List RowView) (places : List ℕ) → AreKept nobody n rows places → ((q l : ℕ) → has (literals_at m q) l ≡ true → l < length rows) → node_at s 1 < length places → HavePlaces m places → ((l : ℕ) → HasRoom m l (count_at rows l)) → AreKept (nat_eq s) m rows places
+  kept_more rows places k within fits keeps rooms = record {
     stored = b.stored;
     listed = listed_same (IsHere nobody n) (IsHere (nat_eq s) m) rows places here_from here_to k.listed;
     blockers = λ l i lt. let h = here_from _ _ l (k.listed.back l i lt) in subst (λ ls. has ls (entry_at (watches_at rows l) i).blocker ≡ true) (lits_less (entry_at (watches_at rows l) i).slot h.1 h.0.slot) (k.blockers l i lt);
@@ -160,6 +163,7 @@ module _ (m n : Store) (id s : ℕ) (b : Beside m n id s) where
       | inl y ↦ subst (λ z. node_at z 1 < length places) (same_Some s t (sym b.slot ∙ ap (slot_at m) (eqb-true id q y) ∙ e)) fits
       | inr d ↦ k.fits q t (ap (option_map (λ p. p.slot)) (b.others q d) ∙ e)
     ];
+    keeps = keeps;
     rooms = rooms;
   }
 
@@ -175,7 +179,7 @@ beside-put m n id s set ls st p = record {
   slot = slot-put m n id s set ls p.is;
 }
 
-module _ (m n : Store) (id : ℕ) (h : Held) (is : n ≡ insert m id h) where
+module _ (m n : Store) (id : ℕ) (h : ClauseEntry) (is : n ≡ insert m id h) where
   pub put-here : (q : ℕ) → nat_eq id q ≡ true → literals_at n q ≡ h.literals
   put-here q y = ap (λ z. literals_at z q) is ∙ literals-put m id h q ∙ ap (λ c. cond c h.literals (literals_at m q)) y
 
@@ -236,41 +240,43 @@ pub kept_added : (m n : Store) (rows new : List RowView) (places places' : List 
 kept_added m n rows new places places' id s set ls a =
     let r = a.raised in
     let none : AreRaised [] rows new = record { long = r.long; watches = r.watches; counts = r.counts; more = λ l h. absurd (both_ways false refl h) } in
-    kept_more n m id s (beside-put m n id s set ls a.kept.stored a.puts) new places' (kept_raised m rows new places places' a.kept none a.longer a.same)
+    let before : AreKept nobody m new places' = kept_raised m rows new places places' a.kept none a.longer a.same in
+    kept_more n m id s (beside-put m n id s set ls a.kept.stored a.puts) new places' before
     (put-reserved m n id (active_clause set ls s) a.puts.is (length new) (λ l h. subst (λ z. l < z) (sym r.long) (a.within l h)) (λ q l h. subst (λ z. l < z) (sym r.long) (a.kept.reserved q l h)))
-    a.fits
+    a.fits (places-put m n id (active_clause set ls s) (length places') a.puts.is a.fits before.keeps)
     (λ l. put-room m n id (active_clause set ls s) a.puts.is l (count_at rows l) (count_at new l) (r.counts l) (λ h. r.more l (put-lits m n id s l set ls a.kept.stored a.puts ∙ h)) (a.kept.rooms l))
 
 -- a clause that was weakened has room
 pub kept_restored : (m n : Store) (rows : List RowView) (places : List ℕ) (id s : ℕ) (ls : List ℕ) → AreKept nobody m rows places → Puts m n id s (literals_at m id) ls → node_at s 1 < length places → AreKept (nat_eq s) n rows places
 kept_restored m n rows places id s ls k p fits =
     let sets : (q : ℕ) → literals_at n q ≡ literals_at m q = put-same m n id (active_clause (literals_at m id) ls s) p.is refl in
-    kept_more n m id s (beside-put m n id s (literals_at m id) ls k.stored p) rows places k (λ q l h. k.reserved q l (subst (λ z. has z l ≡ true) (sets q) h)) fits (λ l. room_same m n l (count_at rows l) sets (k.rooms l))
+    kept_more n m id s (beside-put m n id s (literals_at m id) ls k.stored p) rows places k (λ q l h. k.reserved q l (subst (λ z. has z l ≡ true) (sets q) h)) fits (places-put m n id (active_clause (literals_at m id) ls s) (length places) p.is fits k.keeps) (λ l. room_same m n l (count_at rows l) sets (k.rooms l))
 
 -- the same where its slot is found by its id
-pub kept_back : (m n : Store) (rows : List RowView) (places : List ℕ) (id s : ℕ) → AreKept nobody m rows places → IsRestored m id n → is_weakened m id ≡ true → slot_at n id ≡ Some s → node_at s 1 < length places → AreKept (nat_eq s) n rows places
-kept_back m n rows places id s k r w e fits =
+pub kept_back : (m n : Store) (rows : List RowView) (places : List ℕ) (id s : ℕ) → AreKept nobody m rows places → IsRestored m id n → is_weakened m id ≡ true → slot_at n id ≡ Some s → AreKept (nat_eq s) n rows places
+kept_back m n rows places id s k r w e =
     let p : Puts m n id r.slot (literals_at m id) r.lits = puts-restored m n id r w in
     let same : r.slot ≡ s = same_Some r.slot s (sym (slot-put m n id r.slot (literals_at m id) r.lits p.is) ∙ e) in
-    subst (λ z. AreKept (nat_eq z) n rows places) same (kept_restored m n rows places id r.slot r.lits k p (subst (λ z. node_at z 1 < length places) (sym same) fits))
+    subst (λ z. AreKept (nat_eq z) n rows places) same (kept_restored m n rows places id r.slot r.lits k p (subst (λ z. node_at z 1 < length places) (sym r.same_slot) (k.keeps id (and_parts _ _ w).0)))
 
 -- ---- A clause leaves
 
-pub beside-weakened : (m n : Store) (id s : ℕ) → IsStore m → slot_at m id ≡ Some s → n ≡ insert m id (weakened_clause (literals_at m id)) → Beside m n id s
+pub beside-weakened : (m n : Store) (id s : ℕ) → IsStore m → slot_at m id ≡ Some s → n ≡ insert m id (weakened_clause (literals_at m id) (kept_at m id)) → Beside m n id s
 beside-weakened m n id s st e is =
     let a = active m id s e in
     let same : literals_at m id ≡ a.h.literals = ap (λ o. unwrap_or (option_map (λ h. h.literals) o) []) a.is in record {
       stored = st;
-      stored_less = subst IsStore (sym is) (store-with m id (weakened_clause (literals_at m id)) st (subst (λ z. set_of z ≡ z) (sym same) (st.sets id a.h a.is)) (λ p f. absurd (none-some p f)));
-      others = λ q d. ap (λ z. place_at z q) is ∙ place-put m id (weakened_clause (literals_at m id)) q ∙ ap (λ c. cond c None (place_at m q)) d;
-      none = ap (λ z. slot_at z id) is ∙ ap (option_map (λ p. p.slot)) (place-put m id (weakened_clause (literals_at m id)) id ∙ ap (λ c. cond c None (place_at m id)) (eq-eqb id id refl));
+      stored_less = subst IsStore (sym is) (store-with m id (weakened_clause (literals_at m id) (kept_at m id)) st (subst (λ z. set_of z ≡ z) (sym same) (st.sets id a.h a.is)) (λ p f. absurd (none-some p f)));
+      others = λ q d. ap (λ z. place_at z q) is ∙ place-put m id (weakened_clause (literals_at m id) (kept_at m id)) q ∙ ap (λ c. cond c None (place_at m q)) d;
+      none = ap (λ z. slot_at z id) is ∙ ap (option_map (λ p. p.slot)) (place-put m id (weakened_clause (literals_at m id) (kept_at m id)) id ∙ ap (λ c. cond c None (place_at m id)) (eq-eqb id id refl));
       slot = e;
     }
 
-pub kept_weakened : (m n : Store) (rows : List RowView) (places : List ℕ) (id s : ℕ) → IsStore m → slot_at m id ≡ Some s → n ≡ insert m id (weakened_clause (literals_at m id)) → AreKept (nat_eq s) m rows places → AreKept nobody n rows places
+pub kept_weakened : (m n : Store) (rows : List RowView) (places : List ℕ) (id s : ℕ) → IsStore m → slot_at m id ≡ Some s → n ≡ insert m id (weakened_clause (literals_at m id) (kept_at m id)) → AreKept (nat_eq s) m rows places → AreKept nobody n rows places
 kept_weakened m n rows places id s st e is k =
-    let sets : (q : ℕ) → literals_at n q ≡ literals_at m q = put-same m n id (weakened_clause (literals_at m id)) is refl in
-    kept_less m n id s (beside-weakened m n id s st e is) rows places k (λ q l h. subst (λ z. has z l ≡ true) (sets q) h) (λ l. room_same m n l (count_at rows l) sets (k.rooms l))
+    let sets : (q : ℕ) → literals_at n q ≡ literals_at m q = put-same m n id (weakened_clause (literals_at m id) (kept_at m id)) is refl in
+    kept_less m n id s (beside-weakened m n id s st e is) rows places k (λ q l h. subst (λ z. has z l ≡ true) (sets q) h)
+    (places-put m n id (weakened_clause (literals_at m id) (kept_at m id)) (length places) is (k.keeps id (held-active m id s e)) k.keeps) (λ l. room_same m n l (count_at rows l) sets (k.rooms l))
 
 place-cut : (m : Store) (id q : ℕ) → place_at (remove m id) q ≡ cond (nat_eq id q) None (place_at m q)
 place-cut m id q = ap (option_and_then (λ z. z.place)) (get_cut m id q) ∙ by_case (nat_eq id q)
@@ -361,6 +367,6 @@ kept_dropped m n rows new places id s ls d =
     let r = d.lowered in
     let k = d.kept in
     let literals : (l : ℕ) → has ls l ≡ has (literals_at m id) l = λ l. ap (λ z. has z l) (sym d.lits) ∙ lits-literals m id s l d.stored d.slot in
-    let less : AreKept nobody n rows places = kept_less m n id s (beside-removed m n id s d.stored d.slot d.is) rows places k (cut-within m n id d.is) (λ l. let h = k.rooms l in record { ids = h.ids; each = λ q e. h.each q (cut-within m n id d.is q l e); few = h.few }) in
+    let less : AreKept nobody n rows places = kept_less m n id s (beside-removed m n id s d.stored d.slot d.is) rows places k (cut-within m n id d.is) (places-cut m n id (length places) d.is k.keeps) (λ l. let h = k.rooms l in record { ids = h.ids; each = λ q e. h.each q (cut-within m n id d.is q l e); few = h.few }) in
     kept_rows nobody n rows new places less (let e = r.long in omega arith) r.watches
     (λ l. subst (HasRoom n l) (sym (r.counts l ∙ ap (λ c. cond c (count_at rows l - 1) (count_at rows l)) (literals l))) (cut-room m n id d.is l (count_at rows l) (k.rooms l)))

@@ -7,12 +7,13 @@ use Rattle.std.proofs.lemmas.List.Edits.{length-swap}
 use Rattle.std.proofs.lemmas.Option.{same_Some}
 use Rattle.std.proofs.lemmas.Bool.{both_ways, cases_eq}
 use Rattle.lits.specs.Clause.{has}
-use Rattle.clause_store.specs.Clauses.{Store, IsOnce, IsStore, slot_at, lits_at, literals_at, with_swap}
+use Rattle.clause_store.specs.Clauses.{Store, IsOnce, IsStore, slot_at, kept_at, is_held, clause_at, with_place, swapped, lits_at, literals_at, with_swap}
 use Rattle.watch_lists.specs.Watch.{WatchView, no_watch, node_at, node_of}
 use Rattle.watch_lists.specs.Watched.{entry_at}
 use Rattle.watch_lists.specs.Lists.{RowView, no_row, row_at, watches_at, count_at, with_watches, IsCut, IsRowChanged, put_places, cut_places, id_at, lits_of, IsWatching, IsHere, nobody, AreListed, AreBlockers, AreKept, CanMove}
 use Rattle.watch_lists.proofs.Members.{has-place, differs}
 use Rattle.watch_lists.proofs.Placed.{id_at-slot, id_at-is, store-swapped, lits-literals}
+use Rattle.watch_lists.proofs.Putting.{places-put, slot-of-clause, held-active}
 use Rattle.watch_lists.proofs.FirstTwo.{once-lits}
 use Rattle.watch_lists.proofs.Swapping.{swap-slot, swap-lits, swap-literals, at-first, at-third}
 use Rattle.watch_lists.proofs.Listing.{Cuts, Puts, EachEntry, listed_same, listed_cut, listed_put, entries_cut, entries_put, cuts_count, puts_count, puts_others, puts_long}
@@ -56,6 +57,10 @@ module _ (m n : Store) (s p k : ℕ) (x : Exchanges m n s p k) where
 
   exchanged-stored : IsStore n
   exchanged-stored = subst IsStore (sym x.is) (store-swapped m (id_at m s) s p k x.stored x.slot within-place x.in_bounds)
+
+  exchanged-places : (end : ℕ) → ((q : ℕ) → is_held m q ≡ true → node_at (kept_at m q) 1 < end) → (q : ℕ) → is_held n q ≡ true → node_at (kept_at n q) 1 < end
+  exchanged-places end h = places-put m n (id_at m s) (with_place (swapped p k) (clause_at m (id_at m s))) end x.is
+      (subst (λ z. node_at z 1 < end) (sym (slot-of-clause m (id_at m s))) (h (id_at m s) (held-active m (id_at m s) s x.slot))) h
 
   exchanged-slots : (q : ℕ) → slot_at n q ≡ slot_at m q
   exchanged-slots q = ap (λ z. slot_at z q) x.is ∙ swap-slot m (id_at m s) p k q
@@ -279,6 +284,7 @@ module _ (m : Store) (rows : List RowView) (places : List ℕ) (l i k : ℕ) (ca
           blockers = blockers2;
           reserved = λ q a h. subst (λ z. a < z) (sym (puts_long rows1 rows2 joined e puts ∙ row1.long)) (kept.reserved q a (ap (λ z. has z a) (sym (exchanged-literals m n s p k exchange q)) ∙ h));
           fits = λ q t h. subst (λ z. node_at t 1 < z) (sym long2) (kept.fits q t (sym (exchanged-slots m n s p k exchange q) ∙ h));
+          keeps = λ q h. subst (λ z. node_at (kept_at n q) 1 < z) (sym long2) (exchanged-places m n s p k exchange (length places) kept.keeps q h);
           rooms = λ a. room-same m n a _ _ (exchanged-literals m n s p k exchange) (puts_count rows1 rows2 joined e puts a ∙ cuts_count l rows rows1 row1 a) (kept.rooms a);
         }
 

@@ -3,7 +3,7 @@ use Rattle.std.proofs.Common.{◌≡◌, ◌≢◌, ℕ, ◌<◌, ◌≤◌, Lis
 use Rattle.std.specs.Prelude.{slice_index, nat_le}
 use Rattle.std.proofs.lemmas.Bool.{both_ways, leb-true, le-leb}
 use Rattle.lits.specs.Clause.{has}
-use Rattle.clause_store.specs.Clauses.{Store, slot_at}
+use Rattle.clause_store.specs.Clauses.{Store, slot_at, kept_at}
 use Rattle.watch_lists.specs.declared.lists.Sides.{Sides}
 use Rattle.watch_lists.specs.Watch.{node_at}
 use Rattle.watch_lists.specs.Watched.{entry_at}
@@ -30,6 +30,7 @@ parted-short m rows places s sides can e = record {
   blockers = can.kept.blockers;
   reserved = can.kept.reserved;
   fits = can.kept.fits;
+  keeps = can.kept.keeps;
   rooms = can.kept.rooms;
 }
   where
@@ -162,5 +163,6 @@ module _ (m : Store) (rows : List RowView) (places : List ℕ) (s : ℕ) (sides 
         blockers = entries_cut (λ l g. has (lits_of m g.slot) g.blocker ≡ true) rows1 rows2 s 1 x.two x.two_at cuts2 (entries_cut (λ l g. has (lits_of m g.slot) g.blocker ≡ true) rows rows1 s 0 x.one x.one_at cuts1 kept.blockers);
         reserved = λ q l h. subst (λ z. l < z) (sym (row2.long ∙ row1.long)) (kept.reserved q l h);
         fits = λ q t h. subst (λ z. node_at t 1 < z) (sym (ap length places2_are ∙ cut-long places1 (watches_at rows1 x.two) x.two_at)) (fits1 q t h);
+        keeps = λ q h. subst (λ z. node_at (kept_at m q) 1 < z) (sym (ap length places2_are ∙ cut-long places1 (watches_at rows1 x.two) x.two_at ∙ long1)) (kept.keeps q h);
         rooms = λ l. room-same m m l _ _ (λ q. refl) (cuts_count x.two rows1 rows2 row2 l ∙ cuts_count x.one rows rows1 row1 l) (kept.rooms l);
       }

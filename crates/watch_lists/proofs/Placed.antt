@@ -9,7 +9,7 @@ use Rattle.std.specs.Cmp.{unsigned_tied}
 use Rattle.std.specs.FinMap.{get, insert, remove, keys, contains_key-keys}
 use Rattle.lits.specs.Clause.{has, set_of}
 use Rattle.lits.proofs.Ascending.{has-set_of}
-use Rattle.clause_store.specs.Clauses.{Held, Place, Store, IsOnce, IsStore, slot_at, place_at, lits_at, literals_at, clause_at, weakened_clause, swapped, with_place, with_swap}
+use Rattle.clause_store.specs.Clauses.{ClauseEntry, Place, Store, IsOnce, IsStore, slot_at, place_at, lits_at, literals_at, clause_at, weakened_clause, swapped, with_place, with_swap}
 use Rattle.clause_store.proofs.Stored.{get_put, get_cut}
 use Rattle.clause_store.proofs.Changed.{swap-set, swap-once}
 use Rattle.watch_lists.specs.Lists.{has_slot, id_among, id_at}
@@ -38,7 +38,7 @@ any_tied id (q ∷ qs) = ap (λ b. b || list_any (eq_by_cmp nat_cmp id) qs) (uns
 held_key : (m : Store) (id s : ℕ) → slot_at m id ≡ Some s → has (keys m) id ≡ true
 held_key m id s e = sym (any_tied id (keys m)) ∙ sym (contains_key-keys m id) ∙ present (get m id) e
   where
-    present : (o : Option Held) → option_map (λ p. p.slot) (option_and_then (λ h. h.place) o) ≡ Some s → is_some o ≡ true
+    present : (o : Option ClauseEntry) → option_map (λ p. p.slot) (option_and_then (λ h. h.place) o) ≡ Some s → is_some o ≡ true
     present None f = absurd (none-some s f)
     present (Some h) f = refl
 
@@ -51,7 +51,7 @@ id_at-is m id s h e = h.slots_apart (id_at m s) id s (id_at-slot m id s e) e
 
 -- an active clause and its place
 pub record Active (m : Store) (id s : ℕ) : Type 0 where
-  pub h : Held
+  pub h : ClauseEntry
   pub p : Place
   pub is : get m id ≡ Some h
   pub place : h.place ≡ Some p
@@ -60,11 +60,11 @@ pub record Active (m : Store) (id s : ℕ) : Type 0 where
 pub active : (m : Store) (id s : ℕ) → slot_at m id ≡ Some s → Active m id s
 active m id s e = by_clause (get m id) refl e
   where
-    by_place : (h : Held) → get m id ≡ Some h → (o : Option Place) → h.place ≡ o → option_map (λ p. p.slot) o ≡ Some s → Active m id s
+    by_place : (h : ClauseEntry) → get m id ≡ Some h → (o : Option Place) → h.place ≡ o → option_map (λ p. p.slot) o ≡ Some s → Active m id s
     by_place h is None f g = absurd (none-some s g)
     by_place h is (Some p) f g = record { h = h; p = p; is = is; place = f; slot = same_Some p.slot s g }
 
-    by_clause : (o : Option Held) → get m id ≡ o → option_map (λ p. p.slot) (option_and_then (λ h. h.place) o) ≡ Some s → Active m id s
+    by_clause : (o : Option ClauseEntry) → get m id ≡ o → option_map (λ p. p.slot) (option_and_then (λ h. h.place) o) ≡ Some s → Active m id s
     by_clause None f g = absurd (none-some s g)
     by_clause (Some h) f g = by_place h f h.place refl g
 
@@ -76,7 +76,7 @@ place-changed m id f q = ap (option_and_then (λ h. h.place)) (get_put m id (wit
   | inr n ↦ rw n refl
 ]
   where
-    held : (o : Option Held) → option_map f (unwrap_or o (weakened_clause [])).place ≡ option_map f (option_and_then (λ h. h.place) o)
+    held : (o : Option ClauseEntry) → option_map f (unwrap_or o (weakened_clause [] 0)).place ≡ option_map f (option_and_then (λ h. h.place) o)
     held None = refl
     held (Some h) = refl
 
@@ -91,7 +91,7 @@ place-kept {X} g m id f q keeps = ap (option_map g) (place-changed m id f q) ∙
 
 -- ---- What holds of a store with one clause put
 
-pub store-with : (m : Store) (id : ℕ) (h : Held) → IsStore m → set_of h.literals ≡ h.literals
+pub store-with : (m : Store) (id : ℕ) (h : ClauseEntry) → IsStore m → set_of h.literals ≡ h.literals
     → ((p : Place) → h.place ≡ Some p → (set_of p.lits ≡ h.literals) × IsOnce p.lits × ((q : ℕ) → nat_eq id q ≡ false → slot_at m q ≢ Some p.slot)) → IsStore (insert m id h)
 store-with m id h st ascending placed = record { slots_apart = apart; same_literals = lists; sets = sets }
   where
@@ -118,14 +118,14 @@ store-with m id h st ascending placed = record { slots_apart = apart; same_liter
       ]
     ]
 
-    lists : (q : ℕ) (c : Held) (p : Place) → get (insert m id h) q ≡ Some c → c.place ≡ Some p → (set_of p.lits ≡ c.literals) × IsOnce p.lits
+    lists : (q : ℕ) (c : ClauseEntry) (p : Place) → get (insert m id h) q ≡ Some c → c.place ≡ Some p → (set_of p.lits ≡ c.literals) × IsOnce p.lits
     lists q c p e f = elim (cases_Bool (nat_eq id q)) [
       | inl y ↦ let g : h ≡ c = same_Some h c (sym (ap (λ b. cond b (Some h) (get m q)) y) ∙ sym (get_put m id h q) ∙ e) in
           let r = placed p (ap (λ z. z.place) g ∙ f) in (r.0 ∙ ap (λ z. z.literals) g, r.1)
       | inr n ↦ st.same_literals q c p (sym (ap (λ b. cond b (Some h) (get m q)) n) ∙ sym (get_put m id h q) ∙ e) f
     ]
 
-    sets : (q : ℕ) (c : Held) → get (insert m id h) q ≡ Some c → set_of c.literals ≡ c.literals
+    sets : (q : ℕ) (c : ClauseEntry) → get (insert m id h) q ≡ Some c → set_of c.literals ≡ c.literals
     sets q c e = elim (cases_Bool (nat_eq id q)) [
       | inl y ↦ subst (λ z. set_of z.literals ≡ z.literals) (same_Some h c (sym (ap (λ b. cond b (Some h) (get m q)) y) ∙ sym (get_put m id h q) ∙ e)) ascending
       | inr n ↦ st.sets q c (sym (ap (λ b. cond b (Some h) (get m q)) n) ∙ sym (get_put m id h q) ∙ e)
@@ -134,7 +134,7 @@ store-with m id h st ascending placed = record { slots_apart = apart; same_liter
 pub store-without : (m : Store) (id : ℕ) → IsStore m → IsStore (remove m id)
 store-without m id st = record { slots_apart = apart; same_literals = λ q c p e. st.same_literals q c p (clause q c e); sets = λ q c e. st.sets q c (clause q c e) }
   where
-    clause : (q : ℕ) (c : Held) → get (remove m id) q ≡ Some c → get m q ≡ Some c
+    clause : (q : ℕ) (c : ClauseEntry) → get (remove m id) q ≡ Some c → get m q ≡ Some c
     clause q c e = elim (cases_Bool (nat_eq id q)) [
       | inl y ↦ absurd (none-some c (sym (ap (λ b. cond b None (get m q)) y) ∙ sym (get_cut m id q) ∙ e))
       | inr n ↦ sym (ap (λ b. cond b None (get m q)) n) ∙ sym (get_cut m id q) ∙ e
@@ -151,7 +151,7 @@ pub store-placed : (m : Store) (id s : ℕ) (f : Place → Place) → IsStore m 
     → ((p : Place) → place_at m id ≡ Some p → IsOnce p.lits → IsOnce (f p).lits) → IsStore (insert m id (with_place f (clause_at m id)))
 store-placed m id s f st e slots sets onces =
     let a = active m id s e in
-    let c : clause_at m id ≡ a.h = ap (λ o. unwrap_or o (weakened_clause [])) a.is in
+    let c : clause_at m id ≡ a.h = ap (λ o. unwrap_or o (weakened_clause [] 0)) a.is in
     let place : place_at m id ≡ Some a.p = ap (option_and_then (λ h. h.place)) a.is ∙ a.place in
     let old = st.same_literals id a.h a.p a.is a.place in
     subst (λ z. IsStore (insert m id (with_place f z))) (sym c) (store-with m id (with_place f a.h) st (st.sets id a.h a.is) (λ p g.

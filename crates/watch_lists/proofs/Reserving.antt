@@ -1,13 +1,13 @@
 -- No clause at all, and more variables reserved.
 use Rattle.std.proofs.Common.{◌≡◌, ℕ, suc, zero, ◌+◌, ◌-◌, ◌*◌, ◌<◌, List, [], ◌∷◌, ◌++◌, length, map, Some, None, refl, sym, ap, ◌∙◌, subst, arith, true, false}
-use Rattle.std.specs.Prelude.{replicate, option_map, option_and_then, unwrap_or}
+use Rattle.std.specs.Prelude.{replicate, is_some, option_map, option_and_then, unwrap_or}
 use Rattle.std.proofs.lemmas.Option.{none-some}
 use Rattle.std.proofs.lemmas.Bool.{both_ways}
 use Rattle.std.proofs.lemmas.List.{length-append, length-replicate}
 use Rattle.std.specs.Ordering.{nat_cmp}
 use Rattle.std.specs.FinMap.{get, empty, get-empty}
 use Rattle.lits.specs.Clause.{has}
-use Rattle.clause_store.specs.Clauses.{Held, Store, IsStore, slot_at, literals_at}
+use Rattle.clause_store.specs.Clauses.{ClauseEntry, Store, IsStore, slot_at, literals_at}
 use Rattle.watch_lists.specs.Watched.{Watched, reserved}
 use Rattle.watch_lists.specs.Lists.{RowView, no_row, watches_at, count_at, row_at, nobody, AreKept, HasRoom, IsInside, seen}
 use Rattle.watch_lists.proofs.Calling.{lists_more, wide_seen}
@@ -15,7 +15,7 @@ use Rattle.watch_lists.proofs.Keeping.{kept_rows}
 
 -- ---- No clause
 
-no_clause : (q : ℕ) → get {K = ℕ} {X = Held} {R = nat_cmp} empty q ≡ None
+no_clause : (q : ℕ) → get {K = ℕ} {X = ClauseEntry} {R = nat_cmp} empty q ≡ None
 no_clause q = get-empty nat_cmp q
 
 empty-slot : (q s : ℕ) → slot_at empty q ≡ Some s → ⊥
@@ -43,6 +43,7 @@ kept_empty = record {
   blockers = λ l i lt. absurd (omega arith);
   reserved = λ q l h. absurd (empty-literals q l h);
   fits = λ q s e. absurd (empty-slot q s e);
+  keeps = λ q h. absurd (both_ways _ (ap is_some (no_clause q)) h);
   rooms = λ l. record { ids = []; each = λ q h. absurd (empty-literals q l h); few = omega arith };
 }
 

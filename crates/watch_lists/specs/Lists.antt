@@ -3,7 +3,7 @@ use Rattle.std.specs.Prelude.{◌≡◌, ◌≢◌, ℕ, ◌+◌, ◌*◌, ◌<�
 use Rattle.std.specs.Coded.{Coded, code_by, coded×, coded_list, coded_ℕ}
 use Rattle.std.specs.FinMap.{keys}
 use Rattle.lits.specs.Clause.{has}
-use Rattle.clause_store.specs.Clauses.{Store, slot_at, lits_at, literals_at, IsStore}
+use Rattle.clause_store.specs.Clauses.{Store, slot_at, kept_at, is_held, lits_at, literals_at, IsStore}
 use Rattle.watch_lists.specs.declared.lists.Sides.{Sides}
 use Rattle.watch_lists.specs.Watch.{WatchView, watch_code, node_at, node_of}
 use Rattle.watch_lists.specs.Watched.{Watched, entry_at}
@@ -125,6 +125,10 @@ pub record HasRoom (m : Store) (l count : ℕ) : Type 0 where
   pub each : (q : ℕ) → has (literals_at m q) l ≡ true → has ids q ≡ true
   pub few : length ids ≤ count
 
+-- the table has a place for both entries of each clause, also of a weakened one
+abbrev pub HavePlaces : Store → List ℕ → Type 0
+HavePlaces m places = (q : ℕ) → is_held m q ≡ true → node_at (kept_at m q) 1 < length places
+
 -- the lists are those of the clauses whose slots aren't away
 pub record AreKept (away : ℕ → Bool) (m : Store) (rows : List RowView) (places : List ℕ) : Type 0 where
   pub stored : IsStore m
@@ -132,6 +136,7 @@ pub record AreKept (away : ℕ → Bool) (m : Store) (rows : List RowView) (plac
   pub blockers : AreBlockers m rows
   pub reserved : (q l : ℕ) → has (literals_at m q) l ≡ true → l < length rows
   pub fits : (q s : ℕ) → slot_at m q ≡ Some s → node_at s 1 < length places
+  pub keeps : HavePlaces m places
   pub rooms : (l : ℕ) → HasRoom m l (count_at rows l)
 
 -- what the fields of watched clauses fulfil

@@ -3,7 +3,7 @@ use Rattle.std.specs.Prelude.{◌≡◌, ℕ, ◌<◌, ◌*◌, ◌≤◌, ◌-�
 use Rattle.std.specs.FinMap as finmap
 use Rattle.std.specs.Coded.{Coded, code_by, coded×, coded_list, coded_ℕ}
 use Rattle.lits.specs.Clause.{has}
-use Rattle.clause_store.specs.Clauses.{Store, held_code, slot_at, lits_at, literals_at, IsSlot, IsOnce, IsStore}
+use Rattle.clause_store.specs.Clauses.{Store, clause_code, slot_at, lits_at, literals_at, IsSlot, IsOnce, IsStore}
 use Rattle.watch_lists.specs.Watch.{WatchView, watch_code, no_watch, with_blocker}
 
 -- the clauses, and the list of each literal of a reserved variable
@@ -14,7 +14,7 @@ pub record Watched : Type 0 where
 -- they are stored as their parts
 abbrev pub watched_code : Coded Watched
 watched_code =
-    code_by (Store × List (List WatchView)) (coded× (finmap.code coded_ℕ held_code) (coded_list (coded_list watch_code)))
+    code_by (Store × List (List WatchView)) (coded× (finmap.code coded_ℕ clause_code) (coded_list (coded_list watch_code)))
     (λ w. (w.clauses, w.lists)) (λ p. record { clauses = p.0; lists = p.1 }) (λ _. refl)
 
 -- the list of a literal, empty where its variable isn't reserved

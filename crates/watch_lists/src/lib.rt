@@ -6,10 +6,10 @@
 //! all clauses with its literal.
 #![tactic(auto)]
 
-ghost use Rattle.std.specs.Prelude.{◌≡◌, ℕ, ◌*◌, ◌-◌, ◌<◌, ◌≤◌, ◌↔◌, [], length, take, OnOk, OnErr, IfOk, IfErr, IfSome, IfNone, IsTrue, true, false, Some, None};
+ghost use Rattle.std.specs.Prelude.{◌≡◌, ℕ, ◌*◌, ◌-◌, ◌<◌, ◌≤◌, ◌↔◌, [], length, take, IsOk, OnOk, OnErr, IfOk, IfErr, IfSome, IfNone, IsTrue, true, false, Some, None};
 ghost use Rattle.std.specs.FinMap as finmap;
 ghost use Rattle.lits.specs.Clause.{has};
-ghost use Rattle.clause_store.specs.Clauses.{slot_at, lits_at, literals_at, is_active, is_weakened, is_held, new_clause, weakened_clause, with_swap, IsSlot, IsFresh, IsRestored, IsActiveWith, IsWeakenedWith};
+ghost use Rattle.clause_store.specs.Clauses.{slot_at, lits_at, literals_at, kept_at, is_active, is_weakened, is_held, new_clause, weakened_clause, with_swap, IsSlot, IsFresh, IsRestored, IsActiveWith, IsWeakenedWith};
 ghost use Rattle.clause_store.specs.declared.StoreFault.TheVariants as fault;
 ghost use Rattle.watch_lists.specs.Watched.{IsWatched, AreReserved, list_at, watch_at, reserved, blocked};
 
@@ -68,10 +68,13 @@ impl Watches {
         }
     }
 
-    /// Reserves the variables up to this one; the lists of their literals are empty. After an error all is as it was.
+    /// Reserves the variables up to this one; the lists of their literals are empty. After an error all is as it was. Where
+    /// they are reserved it answers Ok, and all stays.
     pub fn reserve(&mut self, vars: u32) -> Result<(), AllocError>
         ensures ok { OnOk result (self.new ≡ reserved self.old vars) }
         ensures err { OnErr result (self.new ≡ self.old) }
+        ensures enough { 2 * vars ≤ length self.old.lists → IsOk result }
+        ensures stays { 2 * vars ≤ length self.old.lists → self.new ≡ self.old }
     {
         if vars > self.vars {
             lists::widen(&mut self.rows, 2 * vars as usize)?;
@@ -149,7 +152,7 @@ impl Watches {
     /// Makes an active clause a weakened one, and takes its slot out of its lists. NotActive comes exactly where the id
     /// isn't active; all stays after each refusal.
     pub fn weaken(&mut self, id: u64) -> Result<(), StoreFault>
-        ensures ok { IfOk result (λ _. self.new.clauses ≡ finmap.insert self.old.clauses id (weakened_clause (literals_at self.old.clauses id))) }
+        ensures ok { IfOk result (λ _. self.new.clauses ≡ finmap.insert self.old.clauses id (weakened_clause (literals_at self.old.clauses id) (kept_at self.old.clauses id))) }
         ensures active { IfOk result (λ _. IsTrue (is_active self.old.clauses id)) }
         ensures err { IfErr result (λ _. self.new ≡ self.old) }
         ensures inactive { IfErr result (λ e. is_active self.old.clauses id ≡ false → e ≡ fault.NotActive) }
@@ -179,8 +182,7 @@ impl Watches {
         ensures wide { length self.new.lists ≡ length self.old.lists }
         ensures sound { IsWatched self.new }
     {
-        let end = (self.places.len() / 2) as u64;
-        if let Err(fault) = self.store.restore_below(id, end) {
+        if let Err(fault) = self.store.restore(id) {
             return Err(fault);
         }
         if let Some(slot) = self.store.find(id) {

@@ -56,7 +56,8 @@ impl Row {
         &self.watches
     }
 
-    /// Makes room for one clause more, and for some to come. Where memory is wanting all stays.
+    /// Makes room for one clause more, and for some to come. A list of which most places aren't needed any more gives them
+    /// back here, where memory may be taken, since it is moved then. Where memory is wanting all stays.
     pub(crate) fn raise(&mut self) -> Result<(), AllocError>
         ensures ok { OnOk result (self.new ≡ with_count self.old (self.old.count + 1)) }
         ensures err { OnErr result (self.new ≡ self.old) }
@@ -65,23 +66,22 @@ impl Row {
             return Err(AllocError);
         }
         let want = self.count as usize + 1;
-        if self.watches.capacity() < want {
+        let places = self.watches.capacity();
+        if places < want {
             let more = (want + want / 2 + 2).saturating_sub(self.watches.len());
             self.watches.reserve_exact(more)?;
+        } else if places > 2 * want + SPARE {
+            self.watches.shrink_to(want + want / 2);
         }
         self.count += 1;
         Ok(())
     }
 
-    /// Gives up the room for one clause. Where most of the memory isn't needed any more, it is given back.
+    /// Gives up the room for one clause. It takes no memory and gives none back.
     pub(crate) fn lower(&mut self)
         ensures { self.new ≡ with_count self.old (self.old.count - 1) }
     {
         self.count = self.count.saturating_sub(1);
-        let count = self.count as usize;
-        if self.watches.capacity() > 2 * count + SPARE {
-            self.watches.shrink_to(count + count / 2);
-        }
     }
 
     /// Puts an entry at the end of a list that has room for it.

@@ -3,11 +3,8 @@ use Rattle.std.specs.FinMap.{len, remove}
 use Rattle.lit_pool.proofs.PiecesMap.{found, len_removed, some_live}
 use Rattle.lit_pool.proofs.Pool.free.Goals as goal
 
-pub len-requires : goal.len-requires
-len-requires c = let f = found _ _ _ _ c.self.view_is c.self.invariant.pieces c.requires.live in f.head
-
-pub size_for-size-requires : goal.size_for-size-requires
-size_for-size-requires c = let f = found _ _ _ _ c.self.view_is c.self.invariant.pieces c.requires.live in omega (arith, c.len.ensures, f.few)
+pub units-units-requires : goal.units-units-requires
+units-units-requires c = let f = found _ _ _ _ c.self.view_is c.self.invariant.pieces c.requires.live in f.head
 
 pub vacate-requires-clause-live : goal.vacate-requires-clause-live
 vacate-requires-clause-live c = let f = found _ _ _ _ c.self.view_is c.self.invariant.pieces c.requires.live in f.alive

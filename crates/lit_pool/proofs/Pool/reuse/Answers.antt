@@ -9,5 +9,5 @@ overflow_add-self c = record { fits = omega (arith, c.self.invariant.counted, le
 pub invariant_of-self : goal.invariant_of-self
 invariant_of-self c = record {
   pieces = c.occupy.ensures.pieces;
-  counted = ap (λ n. n + 1) c.self.invariant.counted ∙ sym (len_added _ _ _ c.occupy.ensures.fresh) ∙ ap len (sym c.occupy.ensures.filled);
+  counted = ap (λ n. n + 1) (c.self.invariant.counted ∙ ap len (sym c.trim.ensures.same)) ∙ sym (len_added _ _ _ c.occupy.ensures.fresh) ∙ ap len (sym c.occupy.ensures.filled);
 }

@@ -1,9 +1,8 @@
 use Rattle.std.proofs.Common.{◌-◌, ◌*◌, ◌+◌, ◌≤◌}
 use Rattle.lit_pool.proofs.freed.size_for.Given as goal
 
--- the units before the last step were too few
 abbrev pub invariant-loop-units : goal.invariant-loop-units
-invariant-loop-units l = (1 ≤ l.units) × (l.units ≤ 4000001) × (l.size ≤ l.units)
+invariant-loop-units l = (8 ≤ l.units) × (l.units ≤ 536870912) × (l.number ≤ l.units) × (l.least ≤ 536870912)
 
 abbrev pub decreases-loop-units : goal.decreases-loop-units
-decreases-loop-units l = l.count + 4 - 8 * l.units
+decreases-loop-units l = l.least - l.units

@@ -24,14 +24,14 @@ returns-in_err-resize-clause-same c =
     (λ i. live_pieces (c.in_ok-extend_to.ensures.ok i) (c.in_err-resize.ensures.items i)) ∙ (longer _ _ _ c.requires.pieces).stays
 
 -- what the words and kinds are at the end
-ends : (c : goal.After-kinds-1) → Appended c.extend_to.new.self c.put.new.self c.args.kinds.now.items (set c.resize.new.self.items c.len-end.result Freed) c.args.units
+ends : (c : goal.After-kinds-1) → Appended c.extend_to.new.self c.set_units.new.words c.args.kinds.now.items (set c.resize.new.self.items c.len-end.result Freed) c.args.units
 ends c =
     let number : c.len-end.result ≡ length c.args.kinds.now.items = c.len-end.ensures ∙ c.args.kinds.now.ok.0 in
     let l = longer c.args.words.now (replicate (8 * (c.len-end.result + c.args.units) - length c.args.words.now) 0) c.args.kinds.now.items c.requires.pieces in
     let before : ArePieces c.extend_to.new.self c.args.kinds.now.items = rw c.in_ok-extend_to.ensures.ok l.pieces in
     let long = long_enough c.args.words.now c.extend_to.new.self (8 * (c.len-end.result + c.args.units)) c.in_ok-extend_to.ensures.ok in
     let a = appended _ _ c.args.units before (omega (arith, number, long)) c.requires.some in
-    let words : c.put.new.self ≡ set c.extend_to.new.self (8 * length c.args.kinds.now.items) (8 * c.args.units - 4) = c.put.ensures ∙ (λ i. set c.extend_to.new.self (8 * number i) (c.from_code.ensures i)) in
+    let words : c.set_units.new.words ≡ set c.extend_to.new.self (8 * length c.args.kinds.now.items) (8 * c.args.units - 4) = c.set_units.ensures ∙ (λ i. set c.extend_to.new.self (8 * number i) (8 * c.args.units - 4)) in
     let kinds : set c.resize.new.self.items c.len-end.result Freed ≡ set (c.args.kinds.now.items ++ replicate c.args.units Inside) (length c.args.kinds.now.items) Freed
     = (λ i. set ((c.in_ok-resize.ensures.items ∙ resized _ _ _ _ number c.args.kinds.now.ok.0) i) (number i) Freed) in
     rw (words, kinds) a

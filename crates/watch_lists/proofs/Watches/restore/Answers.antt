@@ -15,18 +15,17 @@ returns-in-Err-clause-sound c = subst (λ z. IsWatched (seen z c.self.inside.row
 
 pub enter-requires-clause-kept : goal.enter-requires-clause-kept
 enter-requires-clause-kept c =
-    let slot : slot_at c.restore_below.new.self c.args.id ≡ Some c.in-Some.slot = sym c.find.ensures.slot ∙ c.in-Some.is in
-    kept_back c.self.inside.store c.restore_below.new.self c.self.inside.rows.items c.self.inside.places.items c.args.id c.in-Some.slot c.self.invariant.kept c.in_default.ensures.ok c.in_default.ensures.weakened slot
-    (let r = c.in_default.ensures.below c.in-Some.slot slot in omega (arith, r, c.len.ensures, c.self.inside.places.ok.0))
+    let slot : slot_at c.restore.new.self c.args.id ≡ Some c.in-Some.slot = sym c.find.ensures.slot ∙ c.in-Some.is in
+    kept_back c.self.inside.store c.restore.new.self c.self.inside.rows.items c.self.inside.places.items c.args.id c.in-Some.slot c.self.invariant.kept c.in_default.ensures.ok c.in_default.ensures.weakened slot
 
 pub enter-requires-clause-slot : goal.enter-requires-clause-slot
-enter-requires-clause-slot c = id_at-slot c.restore_below.new.self c.args.id c.in-Some.slot (sym c.find.ensures.slot ∙ c.in-Some.is)
+enter-requires-clause-slot c = id_at-slot c.restore.new.self c.args.id c.in-Some.slot (sym c.find.ensures.slot ∙ c.in-Some.is)
 
 pub invariant_of-self-in_default-find : goal.invariant_of-self-in_default-find
-invariant_of-self-in_default-find c = absurd (none-some c.in_default.ensures.ok.slot (sym c.in_default-find.is ∙ c.find.ensures.slot ∙ slot-put c.self.inside.store c.restore_below.new.self c.args.id c.in_default.ensures.ok.slot (literals_at c.self.inside.store c.args.id) c.in_default.ensures.ok.lits c.in_default.ensures.ok.changed))
+invariant_of-self-in_default-find c = absurd (none-some c.in_default.ensures.ok.slot (sym c.in_default-find.is ∙ c.find.ensures.slot ∙ slot-put c.self.inside.store c.restore.new.self c.args.id c.in_default.ensures.ok.slot (literals_at c.self.inside.store c.args.id) c.in_default.ensures.ok.lits c.in_default.ensures.ok.changed))
 
 pub returns-in-Some-clause-sound : goal.returns-in-Some-clause-sound
-returns-in-Some-clause-sound c = kept_sound c.restore_below.new.self c.enter.new.rows.items c.enter.new.places.items c.enter.ensures.kept
+returns-in-Some-clause-sound c = kept_sound c.restore.new.self c.enter.new.rows.items c.enter.new.places.items c.enter.ensures.kept
 
 pub returns-in_default-find-clause-sound : goal.returns-in_default-find-clause-sound
-returns-in_default-find-clause-sound c = absurd (none-some c.in_default.ensures.ok.slot (sym c.in_default-find.is ∙ c.find.ensures.slot ∙ slot-put c.self.inside.store c.restore_below.new.self c.args.id c.in_default.ensures.ok.slot (literals_at c.self.inside.store c.args.id) c.in_default.ensures.ok.lits c.in_default.ensures.ok.changed))
+returns-in_default-find-clause-sound c = absurd (none-some c.in_default.ensures.ok.slot (sym c.in_default-find.is ∙ c.find.ensures.slot ∙ slot-put c.self.inside.store c.restore.new.self c.args.id c.in_default.ensures.ok.slot (literals_at c.self.inside.store c.args.id) c.in_default.ensures.ok.lits c.in_default.ensures.ok.changed))

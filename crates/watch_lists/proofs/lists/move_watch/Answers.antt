@@ -8,6 +8,11 @@ at-other-requires-clause-within c =
     let entry = entry-read c.args.store.now c.args.rows.now.items c.args.places.now.items c.args.l c.args.i c.args.k c.requires c.code.result c.index.result.now c.list.result.now c.index-list-i.result c.code.ensures.code c.index.ensures c.list.ensures.list c.index-list-i.is in
     within-other c.args.store.now c.args.rows.now.items c.args.places.now.items c.args.l c.args.i c.args.k c.requires c.slot-slot.result c.place-place.result (c.slot-slot.ensures ∙ ap (λ z. z.slot) entry) (c.place-place.ensures.is ∙ ap (λ z. z.place) entry)
 
+pub at-joined-requires-clause-within : goal.at-joined-requires-clause-within
+at-joined-requires-clause-within c =
+    let entry = entry-read c.args.store.now c.args.rows.now.items c.args.places.now.items c.args.l c.args.i c.args.k c.requires c.code.result c.index.result.now c.list.result.now c.index-list-i.result c.code.ensures.code c.index.ensures c.list.ensures.list c.index-list-i.is in
+    within-joined c.args.store.now c.args.rows.now.items c.args.places.now.items c.args.l c.args.i c.args.k c.requires c.slot-slot.result c.place-place.result (c.slot-slot.ensures ∙ ap (λ z. z.slot) entry) (c.place-place.ensures.is ∙ ap (λ z. z.place) entry)
+
 pub cut-requires-clause-few : goal.cut-requires-clause-few
 cut-requires-clause-few c = few c.args.store.now c.args.rows.now.items c.args.places.now.items c.args.l c.args.i c.args.k c.requires
 

@@ -45,7 +45,8 @@ use Rattle.lit_pool.specs.contracts.block.Room as R
 use Rattle.lit_pool.specs.contracts.block.Room.new as f
 use Rattle.lit_pool.proofs.block.Room.new.Statement.{statement}
 use Rattle.lit_pool.proofs.block.Room.new.Code as code
-use Rattle.lit_pool.proofs.Raw.{pair, pairs, block_size, block_align}
+use Rattle.std_alloc.proofs.Pairs.{pair_val, pair_of}
+use Rattle.lit_pool.proofs.Raw.{block_size, block_align}
 
 abbrev two : ℕ → ℕ → ℕ → Val
 two b o n = vstruct (vcons (vptr b o) (vcons (vint w64 n) vnil))
@@ -79,7 +80,7 @@ new_spec 𝓤 𝓛 𝓜 𝓡 wired A LA g dict drops met meets =
     let Y : Al = record { row = A; laws = LA; g = g; d = dict; drops = drops } in
     let fits : n < 2 ^ 64 = are.1.0.1 in
     let y : W.Ghost = ((κs, qs, bounds, a, (shr_vals a.0, (uint_vals w64 n, tt))), tt) in
-    let Asked : Type 0 = n < 2 ^ 32 in
+    let Asked : Type 0 = n < 2 ^ 40 in
     qed 𝓛 (((‵ (flft κ q) ⊛ ‵ (flft κ' q') ⊛ ‵ ftrue) ⊛ ‵ ((ShrRef (named 0) κ P).own_val a.0 (shr_vals a.0)) ⊛ ‵ (usize.own_val n (uint_vals w64 n)) ⊛ ‵ ftrue)
     ∷ (raw (fact 𝓤 (κ' ⊑ A.lives)) ⊛ raw (fact 𝓤 Asked)) ∷ []) ∵
     move ! (1 ∷ []) $ split ! $ heard ! (κ' ⊑ A.lives) (λ outlives. heard ! Asked (λ small.
@@ -102,7 +103,7 @@ new_spec 𝓤 𝓛 𝓜 𝓡 wired A LA g dict drops met meets =
     let p : Ptr = block_ptr b o in
     let x : (R.the_row).Denot = record { at = p; len = n; small = small } in
     let k : (L.the_row P g).Denot = record { by = record {}; alloc = h; at = p; len = n } in
-    let u : Val = pair (two b o n) none in
+    let u : Val = pair_val (two b o n) none in
     let Told : Type 0 = (n ≡ n) × (p ≡ p) × (n ≡ n) × (h ≡ h) in
     sets ! (of_opd ! (get_in ! (vrt ! refl (fld ! refl (stop !))) (in_variant ! 0 0 refl refl (whole !)))) refl (tt, tt) $
     sets ! (of_opd ! (get ! refl)) refl (tt, tt) $
@@ -117,7 +118,7 @@ new_spec 𝓤 𝓛 𝓜 𝓡 wired A LA g dict drops met meets =
     -- [the room; the right to free it; the tokens]
     use0 𝓛 (‵ ((Struct (shape R.the_type)).own_val (p, (n, tt)) (two b o n ∷ []))) (room_words 𝓛 b o n fits) $ fjoin ! $ move ! (1 ∷ []) $
     use0 𝓛 (‵ ((Struct (shape (L.the_type P g))).own_val (record {}, tt) (none ∷ []))) (lease_words P g 𝓛) $ fjoin ! $ move ! (1 ∷ 0 ∷ []) $
-    use2 𝓛 (‵ ((Tuple (R.the_row ∷ L.the_row P g ∷ [])).own_val (x, k) (u ∷ []))) (pairs 𝓛 R.the_row (L.the_row P g) x k (two b o n) none) $
+    use2 𝓛 (‵ ((Tuple (R.the_row ∷ L.the_row P g ∷ [])).own_val (x, k) (u ∷ []))) (pair_of 𝓛 R.the_row (L.the_row P g) x k (two b o n) none) $
     use1 𝓛 (‵ ((O.the_row (Tuple (R.the_row ∷ L.the_row P g ∷ []))).own_val (Some (x, k)) (live 1 (vcons u vnil) ∷ []))) (Some-of 𝓛 (Tuple (R.the_row ∷ L.the_row P g ∷ [])) (x, k) u) $
     move ! (1 ∷ 2 ∷ []) $ join ! $ nothing ! $ nothing ! $ fjoin ! $ nothing ! $ fjoin ! $
     use0 𝓛 (raw (fact 𝓤 Told)) (fact_i 𝓤 Told (emp 𝓤) (refl, refl, refl, refl)) $ move ! (2 ∷ 1 ∷ 3 ∷ 0 ∷ []) $

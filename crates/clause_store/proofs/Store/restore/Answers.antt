@@ -9,22 +9,11 @@ use Rattle.clause_store.specs.Rows.{row, entry_of, noted}
 use Rattle.clause_store.proofs.Stored.{weakened-row, found, Found, Switches, store-switched, all-switched, to-switched, from-switched, inside-same, store_same, on_err, on_ok, entry_live, restored, unlinked_at, unlinked_other, within_noted}
 use Rattle.clause_store.proofs.Stored.{is_off, live_found}
 use Rattle.clause_store.proofs.Changed.{slot-switched}
-use Rattle.clause_store.proofs.Store.restore_below.Goals as goal
+use Rattle.clause_store.proofs.Store.restore.Goals as goal
 
 pub returns-in_default-clause-memory : goal.returns-in_default-clause-memory
 returns-in_default-clause-memory c =
     λ h. absurd (both_ways _ (ap (λ m. is_weakened m c.args.id) (sym c.self.view_is) ∙ weakened-row c.self.inside.pool c.self.inside.clauses c.args.id ∙ ap is_some (sym c.weakened_slot.ensures ∙ c.in_default.is)) h)
-
-pub returns-then-number-end-clause-held : goal.returns-then-number-end-clause-held
-returns-then-number-end-clause-held c =
-    λ h. absurd (both_ways _ h (ap (λ m. is_weakened m c.args.id) (sym c.self.view_is) ∙ weakened-row c.self.inside.pool c.self.inside.clauses c.args.id ∙ ap is_some (sym c.weakened_slot.ensures ∙ c.in-Some.is)))
-
-pub returns-clause-below : goal.returns-clause-below
-returns-clause-below c = λ s e.
-    let good : is_err c.switch.result ≡ false = sym c.is_err.ensures.value ∙ c.if-is_err.false in
-    let f : Found false (row c.self.inside.clauses c.args.id) c.in-Some.slot = found false _ _ (sym c.weakened_slot.ensures ∙ c.in-Some.is) in
-    let same : c.in-Some.slot ≡ s = slot-switched c.set_link-2.new.self c.self.inside.clauses c.switch.new.clauses c.args.id c.in-Some.slot s f.k f.is f.slot (on_ok c.switch.result _ good c.switch.ensures.rows) e in
-    subst (λ n. n < c.args.end) (c.number.ensures ∙ same) c.if-number-end.false
 
 pub key_at-key-requires : goal.key_at-key-requires
 key_at-key-requires c = within_noted false c.self.inside.pool c.self.inside.clauses c.self.inside.noted.items c.args.id c.in-Some.slot c.self.invariant.rows (sym c.weakened_slot.ensures ∙ c.in-Some.is)
