@@ -41,6 +41,10 @@ events-some ps p e is = rw (filter_map-append, is) refl
 events-none : (ps : List LStep) (p : LStep) → id_event_of p ≡ None → id_events_of (ps ++ p ∷ []) ≡ id_events_of ps
 events-none ps p is = rw (filter_map-append, is, append-nil) refl
 
+-- what the events say of the order is what the steps say
+fits_order : {s : State} {answer o : Option Rule} (ps : List LStep) → StandsFor s (id_events_of ps) → (e : Event) → answer ≡ slice_get (order_rules s (kind_of e)) 0 → answer ≡ o → first_rule (order_faults (id_events_of ps) e) ≡ o
+fits_order {s} {answer} {o} ps h e order is = order_is s (id_events_of ps) h answer e order ∙ is
+
 -- what a call that takes an event says
 abbrev pub TakesEvent : State → State → Event → Type 0
 TakesEvent s t e = (es : List Event) → StandsFor s es → StandsFor t (es ++ e ∷ [])
@@ -66,33 +70,33 @@ module _ (m : Clauses) (s t : State) (answer : Option Rule) where
   module _ (c : List ℕ) (order : answer ≡ slice_get (order_rules s (kind_of (events.Query c))) 0) where
     pub query_order : (r : Rule) → answer ≡ Some r → JudgedId (holding_ids m s) (holding_ids m t) (lsteps.Query c) (Some r)
     unfolding own_id_faults
-    query_order r is = stops m s m t (lsteps.Query c) r (λ ps a. order_is s (id_events_of ps) a.events answer (events.Query c) order ∙ is)
+    query_order r is = stops m s m t (lsteps.Query c) r (λ ps a. fits_order ps a.events (events.Query c) order is)
 
     pub query_done : answer ≡ None → TakesEvent s t (events.Query c) → JudgedId (holding_ids m s) (holding_ids m t) (lsteps.Query c) None
     unfolding own_id_faults
-    query_done is takes = goes_on m s m t (lsteps.Query c) (λ ps a. order_is s (id_events_of ps) a.events answer (events.Query c) order ∙ is)
+    query_done is takes = goes_on m s m t (lsteps.Query c) (λ ps a. fits_order ps a.events (events.Query c) order is)
         (after_event m s t (lsteps.Query c) (events.Query c) refl refl refl takes)
 
   module _ (w : StatusWord) (order : answer ≡ slice_get (order_rules s (kind_of (events.Status w))) 0) where
     pub status_order : (r : Rule) → answer ≡ Some r → JudgedId (holding_ids m s) (holding_ids m t) (lsteps.Status w) (Some r)
     unfolding own_id_faults
-    status_order r is = stops m s m t (lsteps.Status w) r (λ ps a. order_is s (id_events_of ps) a.events answer (events.Status w) order ∙ is)
+    status_order r is = stops m s m t (lsteps.Status w) r (λ ps a. fits_order ps a.events (events.Status w) order is)
 
     pub status_done : answer ≡ None → TakesEvent s t (events.Status w) → JudgedId (holding_ids m s) (holding_ids m t) (lsteps.Status w) None
     unfolding own_id_faults
-    status_done is takes = goes_on m s m t (lsteps.Status w) (λ ps a. order_is s (id_events_of ps) a.events answer (events.Status w) order ∙ is)
+    status_done is takes = goes_on m s m t (lsteps.Status w) (λ ps a. fits_order ps a.events (events.Status w) order is)
         (after_event m s t (lsteps.Status w) (events.Status w) refl refl refl takes)
 
   module _ (c : List ℕ) (order : answer ≡ slice_get (order_rules s (kind_of (events.Model c))) 0) where
     pub model_order : (r : Rule) → answer ≡ Some r → JudgedId (holding_ids m s) (holding_ids m t) (lsteps.Model c) (Some r)
     unfolding own_id_faults
     model_order r is = stops m s m t (lsteps.Model c) r (λ ps a. first-here (order_faults (id_events_of ps) (events.Model c)) (model_faults (id_events_of ps) c) r
-        (order_is s (id_events_of ps) a.events answer (events.Model c) order ∙ is))
+        (fits_order ps a.events (events.Model c) order is))
 
     module _ (kept : answer ≡ None) (own_answer : Option Rule) (model : own_answer ≡ slice_get (model_rules s c) 0) where
       model_rest : (ps : List LStep) → AreAfterIds (holding_ids m s) ps → first_rule (own_id_faults ps (lsteps.Model c)) ≡ own_answer
       unfolding own_id_faults
-      model_rest ps a = first-skip (order_faults (id_events_of ps) (events.Model c)) (model_faults (id_events_of ps) c) (order_is s (id_events_of ps) a.events answer (events.Model c) order ∙ kept)
+      model_rest ps a = first-skip (order_faults (id_events_of ps) (events.Model c)) (model_faults (id_events_of ps) c) (fits_order ps a.events (events.Model c) order kept)
           ∙ model_is s (id_events_of ps) a.events own_answer c model
 
       pub model_broken : (r : Rule) → own_answer ≡ Some r → JudgedId (holding_ids m s) (holding_ids m t) (lsteps.Model c) (Some r)
@@ -128,21 +132,21 @@ module _ (m : Store) (s t : State) (answer : Option Rule) (u hs : List ℕ) (ord
   unfolding own_id_faults
   core_order r is = stops (clauses_of_store m) s (clauses_of_store m) t (lsteps.Core u hs) r (λ ps a.
       first-here (order_faults (id_events_of ps) (events.Core u) ++ hint_faults ps u hs) (core_faults (id_events_of ps) u) r
-      (first-here (order_faults (id_events_of ps) (events.Core u)) (hint_faults ps u hs) r (order_is s (id_events_of ps) a.events answer (events.Core u) order ∙ is)))
+      (first-here (order_faults (id_events_of ps) (events.Core u)) (hint_faults ps u hs) r (fits_order ps a.events (events.Core u) order is)))
 
   module _ (kept : answer ≡ None) (end : HintEnd) (run : end ≡ end_of (hints_fail (active_at m) u hs)) where
     pub core_hint : (p : ℕ) → end ≡ Fails p → JudgedId (holding_ids (clauses_of_store m) s) (holding_ids (clauses_of_store m) t) (lsteps.Core u hs) (Some (rules.Hint p))
     unfolding own_id_faults
     core_hint p is = stops (clauses_of_store m) s (clauses_of_store m) t (lsteps.Core u hs) (rules.Hint p) (λ ps a.
         first-here (order_faults (id_events_of ps) (events.Core u) ++ hint_faults ps u hs) (core_faults (id_events_of ps) u) (rules.Hint p)
-        (first-skip (order_faults (id_events_of ps) (events.Core u)) (hint_faults ps u hs) (order_is s (id_events_of ps) a.events answer (events.Core u) order ∙ kept)
+        (first-skip (order_faults (id_events_of ps) (events.Core u)) (hint_faults ps u hs) (fits_order ps a.events (events.Core u) order kept)
         ∙ hints_broken m ps a.clauses u hs end run p is))
 
     module _ (closed : end ≡ Closed) (own_answer : Option Rule) (core : own_answer ≡ slice_get (core_rules s u) 0) where
       core_rest : (ps : List LStep) → AreAfterIds (holding_ids (clauses_of_store m) s) ps → first_rule (own_id_faults ps (lsteps.Core u hs)) ≡ own_answer
       unfolding own_id_faults
       core_rest ps a = first-skip (order_faults (id_events_of ps) (events.Core u) ++ hint_faults ps u hs) (core_faults (id_events_of ps) u)
-          (first-skip (order_faults (id_events_of ps) (events.Core u)) (hint_faults ps u hs) (order_is s (id_events_of ps) a.events answer (events.Core u) order ∙ kept)
+          (first-skip (order_faults (id_events_of ps) (events.Core u)) (hint_faults ps u hs) (fits_order ps a.events (events.Core u) order kept)
           ∙ hints_closed m ps a.clauses u hs end run closed)
           ∙ core_is s (id_events_of ps) a.events own_answer u core
 
@@ -174,19 +178,19 @@ module _ (m n : Store) (s t : State) (id : ℕ) (c : List ℕ) where
     pub input_order : (r : Rule) → answer ≡ Some r → JudgedId (holding_ids (clauses_of_store m) s) (holding_ids (clauses_of_store n) t) (lsteps.Input id c) (Some r)
     unfolding own_id_faults
     input_order r is = stops (clauses_of_store m) s (clauses_of_store n) t (lsteps.Input id c) r (λ ps a.
-        first-here (order_faults (id_events_of ps) (events.Input c)) (id_faults ps id) r (order_is s (id_events_of ps) a.events answer (events.Input c) order ∙ is))
+        first-here (order_faults (id_events_of ps) (events.Input c)) (id_faults ps id) r (fits_order ps a.events (events.Input c) order is))
 
     pub input_taken : answer ≡ None → is_held m id ≡ true → JudgedId (holding_ids (clauses_of_store m) s) (holding_ids (clauses_of_store n) t) (lsteps.Input id c) (Some rules.IdTaken)
     unfolding own_id_faults
     input_taken is taken = stops (clauses_of_store m) s (clauses_of_store n) t (lsteps.Input id c) rules.IdTaken (λ ps a.
-        first-skip (order_faults (id_events_of ps) (events.Input c)) (id_faults ps id) (order_is s (id_events_of ps) a.events answer (events.Input c) order ∙ is)
+        first-skip (order_faults (id_events_of ps) (events.Input c)) (id_faults ps id) (fits_order ps a.events (events.Input c) order is)
         ∙ id_taken m ps a.clauses id taken)
 
     pub input_done : answer ≡ None → is_held m id ≡ false → (slot : ℕ) → n ≡ finmap.insert m id (new_clause c slot) → TakesEvent s t (events.Input c)
         → JudgedId (holding_ids (clauses_of_store m) s) (holding_ids (clauses_of_store n) t) (lsteps.Input id c) None
     unfolding own_id_faults
     input_done is free slot added takes = goes_on (clauses_of_store m) s (clauses_of_store n) t (lsteps.Input id c)
-        (λ ps a. first-skip (order_faults (id_events_of ps) (events.Input c)) (id_faults ps id) (order_is s (id_events_of ps) a.events answer (events.Input c) order ∙ is) ∙ id_free m ps a.clauses id free)
+        (λ ps a. first-skip (order_faults (id_events_of ps) (events.Input c)) (id_faults ps id) (fits_order ps a.events (events.Input c) order is) ∙ id_free m ps a.clauses id free)
         (λ ps a. record {
           clauses = holds_given (clauses_of_store m) (clauses_of_store n) ps (lsteps.Input id c) id c refl refl (store_added m n id slot c added) a.clauses;
           events = subst (StandsFor t) (sym (events-some ps (lsteps.Input id c) (events.Input c) refl)) (takes (id_events_of ps) a.events);

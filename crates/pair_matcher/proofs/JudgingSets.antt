@@ -45,6 +45,10 @@ events-some ps e = rw filter_map-append refl
 events-none : (ps : List Step) (p : Step) → event_of p ≡ None → events_of (ps ++ p ∷ []) ≡ events_of ps
 events-none ps p is = rw (filter_map-append, is, append-nil) refl
 
+-- what the events say of the order is what the steps say
+fits_order : {s : State} {answer o : Option Rule} (ps : List Step) → StandsFor s (events_of ps) → (e : Event) → answer ≡ slice_get (order_rules s (kind_of e)) 0 → answer ≡ o → first_rule (order_faults (events_of ps) e) ≡ o
+fits_order {s} {answer} {o} ps h e order is = order_is s (events_of ps) h answer e order ∙ is
+
 -- what a call that takes an event says
 abbrev pub TakesEvent : State → State → Event → Type 0
 TakesEvent s t e = (es : List Event) → StandsFor s es → StandsFor t (es ++ e ∷ [])
@@ -71,33 +75,33 @@ module _ (m n : Clauses) (next after : ℕ) (s t : State) (answer : Option Rule)
   module _ (c : List ℕ) (order : answer ≡ slice_get (order_rules s (kind_of (events.Query c))) 0) where
     pub query_order : (r : Rule) → answer ≡ Some r → Judged (holding m next s) (holding n after t) (steps.Event (events.Query c)) (Some r)
     unfolding own_faults
-    query_order r is = stops m next s n after t (steps.Event (events.Query c)) r (λ ps a. order_is s (events_of ps) a.events answer (events.Query c) order ∙ is)
+    query_order r is = stops m next s n after t (steps.Event (events.Query c)) r (λ ps a. fits_order ps a.events (events.Query c) order is)
 
     pub query_done : answer ≡ None → TakesEvent s t (events.Query c) → Judged (holding m next s) (holding m next t) (steps.Event (events.Query c)) None
     unfolding own_faults
-    query_done is takes = goes_on m next s m next t (steps.Event (events.Query c)) (λ ps a. order_is s (events_of ps) a.events answer (events.Query c) order ∙ is)
+    query_done is takes = goes_on m next s m next t (steps.Event (events.Query c)) (λ ps a. fits_order ps a.events (events.Query c) order is)
         (after_event m next s t (events.Query c) refl takes)
 
   module _ (w : StatusWord) (order : answer ≡ slice_get (order_rules s (kind_of (events.Status w))) 0) where
     pub status_order : (r : Rule) → answer ≡ Some r → Judged (holding m next s) (holding n after t) (steps.Event (events.Status w)) (Some r)
     unfolding own_faults
-    status_order r is = stops m next s n after t (steps.Event (events.Status w)) r (λ ps a. order_is s (events_of ps) a.events answer (events.Status w) order ∙ is)
+    status_order r is = stops m next s n after t (steps.Event (events.Status w)) r (λ ps a. fits_order ps a.events (events.Status w) order is)
 
     pub status_done : answer ≡ None → TakesEvent s t (events.Status w) → Judged (holding m next s) (holding m next t) (steps.Event (events.Status w)) None
     unfolding own_faults
-    status_done is takes = goes_on m next s m next t (steps.Event (events.Status w)) (λ ps a. order_is s (events_of ps) a.events answer (events.Status w) order ∙ is)
+    status_done is takes = goes_on m next s m next t (steps.Event (events.Status w)) (λ ps a. fits_order ps a.events (events.Status w) order is)
         (after_event m next s t (events.Status w) refl takes)
 
   module _ (c : List ℕ) (order : answer ≡ slice_get (order_rules s (kind_of (events.Model c))) 0) where
     pub model_order : (r : Rule) → answer ≡ Some r → Judged (holding m next s) (holding n after t) (steps.Event (events.Model c)) (Some r)
     unfolding own_faults
     model_order r is = stops m next s n after t (steps.Event (events.Model c)) r (λ ps a. first-here (order_faults (events_of ps) (events.Model c)) (model_faults (events_of ps) c) r
-        (order_is s (events_of ps) a.events answer (events.Model c) order ∙ is))
+        (fits_order ps a.events (events.Model c) order is))
 
     module _ (held : answer ≡ None) (own_answer : Option Rule) (model : own_answer ≡ slice_get (model_rules s c) 0) where
       model_rest : (ps : List Step) → AreAfter (holding m next s) ps → first_rule (own_faults ps (steps.Event (events.Model c))) ≡ own_answer
       unfolding own_faults
-      model_rest ps a = first-skip (order_faults (events_of ps) (events.Model c)) (model_faults (events_of ps) c) (order_is s (events_of ps) a.events answer (events.Model c) order ∙ held)
+      model_rest ps a = first-skip (order_faults (events_of ps) (events.Model c)) (model_faults (events_of ps) c) (fits_order ps a.events (events.Model c) order held)
           ∙ model_is s (events_of ps) a.events own_answer c model
 
       pub model_broken : (r : Rule) → own_answer ≡ Some r → Judged (holding m next s) (holding n after t) (steps.Event (events.Model c)) (Some r)
@@ -125,12 +129,12 @@ module _ (m n : Clauses) (next after : ℕ) (s t : State) (u : List ℕ) (answer
   pub core_order : (r : Rule) → answer ≡ Some r → Judged (holding m next s) (holding n after t) (steps.Event (events.Core u)) (Some r)
   unfolding own_faults core_first core_last
   core_order r is = stops m next s n after t (steps.Event (events.Core u)) r (λ ps a. first-here (core_first ps) (core_last ps) r
-      (first-here (order_faults (events_of ps) (events.Core u)) (core_faults (events_of ps) u) r (order_is s (events_of ps) a.events answer (events.Core u) order ∙ is)))
+      (first-here (order_faults (events_of ps) (events.Core u)) (core_faults (events_of ps) u) r (fits_order ps a.events (events.Core u) order is)))
 
   module _ (held : answer ≡ None) (own_answer : Option Rule) (core : own_answer ≡ slice_get (core_rules s u) 0) where
     core_firsts : (ps : List Step) → AreAfter (holding m next s) ps → first_rule (core_first ps) ≡ own_answer
     unfolding core_first
-    core_firsts ps a = first-skip (order_faults (events_of ps) (events.Core u)) (core_faults (events_of ps) u) (order_is s (events_of ps) a.events answer (events.Core u) order ∙ held)
+    core_firsts ps a = first-skip (order_faults (events_of ps) (events.Core u)) (core_faults (events_of ps) u) (fits_order ps a.events (events.Core u) order held)
         ∙ core_is s (events_of ps) a.events own_answer u core
 
     pub core_stranger : (r : Rule) → own_answer ≡ Some r → Judged (holding m next s) (holding n after t) (steps.Event (events.Core u)) (Some r)
@@ -154,12 +158,12 @@ module _ (m n : Clauses) (next : ℕ) (s t : State) (c : List ℕ) where
   pub input_order : (after : ℕ) (answer : Option Rule) → answer ≡ slice_get (order_rules s (kind_of (events.Input c))) 0 → (r : Rule) → answer ≡ Some r
       → Judged (holding m next s) (holding n after t) (steps.Event (events.Input c)) (Some r)
   unfolding own_faults
-  input_order after answer order r is = stops m next s n after t (steps.Event (events.Input c)) r (λ ps a. order_is s (events_of ps) a.events answer (events.Input c) order ∙ is)
+  input_order after answer order r is = stops m next s n after t (steps.Event (events.Input c)) r (λ ps a. fits_order ps a.events (events.Input c) order is)
 
   pub input_done : (answer : Option Rule) → answer ≡ slice_get (order_rules s (kind_of (events.Input c))) 0 → answer ≡ None
       → ChangesAt m n next (Some (kept true (set_of c))) → TakesEvent s t (events.Input c) → Judged (holding m next s) (holding n (next + 1) t) (steps.Event (events.Input c)) None
   unfolding own_faults
-  input_done answer order is change takes = goes_on m next s n (next + 1) t (steps.Event (events.Input c)) (λ ps a. order_is s (events_of ps) a.events answer (events.Input c) order ∙ is)
+  input_done answer order is change takes = goes_on m next s n (next + 1) t (steps.Event (events.Input c)) (λ ps a. fits_order ps a.events (events.Input c) order is)
       (λ ps a. record {
         clauses = sets_given m n next ps (steps.Event (events.Input c)) c refl change a.clauses;
         events = subst (StandsFor t) (sym (events-some ps (events.Input c))) (takes (events_of ps) a.events);

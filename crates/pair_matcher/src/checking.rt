@@ -139,7 +139,11 @@ fn take_event<A: Source, P: ProofSide>(
             Ok(None)
         }
         Ok(Match::Ended) => Ok(Some(refused(Side::Proof, c.at.proof.line(), Rule::Ended))),
-        Ok(Match::Differs(rule)) => Ok(Some(refused(Side::Interaction, c.at.interaction.line(), rule))),
+        Ok(Match::Differs(rule)) => Ok(Some(refused(
+            Side::Interaction,
+            c.at.interaction.line(),
+            rule,
+        ))),
         Err(MatchFault::Syntax(rule)) => {
             Ok(Some(refused(Side::Interaction, c.at.interaction.line(), rule)))
         }
@@ -200,10 +204,20 @@ fn take_surplus<A: Source, P: ProofSide>(
 {
     match c.at.interaction.next_line(interaction) {
         Ok(true) => Ok(refused(Side::Interaction, c.at.interaction.line(), Rule::Surplus)),
-        Ok(false) => Ok(Verdict::Accepted { queries: c.at.queries }),
+        Ok(false) => Ok(Verdict::Accepted {
+            queries: c.at.queries,
+        }),
         Err(TokenFault::Read) => Err(CheckFault::ReadInteraction),
-        Err(TokenFault::Length) => Ok(refused(Side::Interaction, c.at.interaction.line(), Rule::Length)),
-        Err(TokenFault::LongWord) => Ok(refused(Side::Interaction, c.at.interaction.line(), Rule::Length)),
+        Err(TokenFault::Length) => Ok(refused(
+            Side::Interaction,
+            c.at.interaction.line(),
+            Rule::Length,
+        )),
+        Err(TokenFault::LongWord) => Ok(refused(
+            Side::Interaction,
+            c.at.interaction.line(),
+            Rule::Length,
+        )),
     }
 }
 

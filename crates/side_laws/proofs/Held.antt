@@ -251,9 +251,11 @@ module _ (m : Clauses) (next : ℕ) (ps : List Step) (h : HoldsSets m next ps) (
   among_kept d k = let r = filter_at (λ x. nat_lt 0 (active_copies ps x)) (filter_map added_clause ps) d k in
       let lt : 0 < how_many is_active d (given_by ps) = subst (λ z. 0 < z) (count-active ps h.found d) (ltb-true _ _ r.1) in
       let found = many-some is_active d (given_by ps) lt in
-      let parts = and_parts (is_active found.1.standing) (same_set d found.1.clause) found.3 in
-      (set_of found.1.clause, are.whole (suc found.0) (set_of found.1.clause) (h.clauses (suc found.0) ∙ ap kept_of_given found.2 ∙ kept_from true found.1.standing found.1.clause parts.0),
-      of_its_set d found.1.clause ∙ parts.1)
+      let parts = and_parts (is_active found.1.standing) (same_set d found.1.clause) found.3 in (
+        set_of found.1.clause,
+        are.whole (suc found.0) (set_of found.1.clause) (h.clauses (suc found.0) ∙ ap kept_of_given found.2 ∙ kept_from true found.1.standing found.1.clause parts.0),
+        of_its_set d found.1.clause ∙ parts.1,
+      )
 
   pub closes_over_kept : (ls : List ℕ) → closes cs ls ≡ closes (active_clauses ps) ls
   closes_over_kept ls = closes-same cs (active_clauses ps) ls among_steps among_kept
