@@ -10,6 +10,7 @@ use Rattle.propagation.specs.declared.TrailEntry.{TrailEntry}
 use Rattle.propagation.specs.Clauses.{active}
 use Rattle.propagation.specs.Engine.{EngineView, literals, with_trail, with_entry, Grows, level_after, is_assumed, value_in, up_to_level, AssumesFrom}
 use Rattle.propagation.proofs.Closing.{has-push_old, has-push_new}
+use Rattle.propagation.proofs.Parts.{has-front}
 use Rattle.propagation.proofs.Levels.{up_to_level-append, level_after-up_to_level}
 use Rattle.rup_check.specs.Assuming.{Assumes}
 
@@ -101,15 +102,8 @@ has-step_new e new l r is = subst (λ z. has (literals z.trail) l ≡ true) (sym
 pub extended : (a b c : EngineView) (xs ys : List TrailEntry) → b ≡ with_trail a (a.trail ++ xs) → c ≡ with_trail b (b.trail ++ ys) → c ≡ with_trail a (a.trail ++ (xs ++ ys))
 extended a b c xs ys e f = f ∙ ap (λ z. with_trail z (z.trail ++ ys)) e ∙ ap (with_trail a) (append_assoc a.trail xs ys)
 
-has-append : (xs ys : List TrailEntry) (q : ℕ) → has (literals xs) q ≡ true → has (literals (xs ++ ys)) q ≡ true
-has-append [] ys q h = cc h
-has-append (x ∷ xs) ys q h = elim (or_cases (nat_eq q x.lit) (has (literals xs) q) h) [
-  | inl e ↦ or_left (nat_eq q x.lit) (has (literals (xs ++ ys)) q) e
-  | inr n ↦ or_right (nat_eq q x.lit) (has (literals (xs ++ ys)) q) (has-append xs ys q n)
-]
-
 pub has-grown : (a b : EngineView) (ys : List TrailEntry) (q : ℕ) → b ≡ with_trail a (a.trail ++ ys) → has (literals a.trail) q ≡ true → has (literals b.trail) q ≡ true
-has-grown a b ys q e h = subst (λ z. has (literals z.trail) q ≡ true) (sym e) (has-append a.trail ys q h)
+has-grown a b ys q e h = subst (λ z. has (literals z.trail) q ≡ true) (sym e) (has-front a.trail ys q h)
 
 -- back at level 0, what had no assumption is kept
 pub Grows-back : (a b c : EngineView) (xs : List TrailEntry) → level_after a.trail ≡ 0 → b ≡ with_trail a (a.trail ++ xs) → c ≡ with_trail b (up_to_level 0 b.trail) → Grows a c
