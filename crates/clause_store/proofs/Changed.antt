@@ -15,7 +15,7 @@ use Rattle.lit_pool.specs.Entry.{Entry, Entries, entry_at, link_of, relinked as 
 use Rattle.lit_pool.specs.declared.Which.{Which}
 use Rattle.lit_pool.specs.declared.Which.TheVariants as which
 use Rattle.clause_store.specs.declared.table.Kept.{Kept}
-use Rattle.clause_store.specs.declared.rows.Noted.{Noted}
+use Rattle.clause_store.specs.declared.rows.SlotInfo.{SlotInfo}
 use Rattle.clause_store.specs.declared.table.Table.{Table}
 use Rattle.clause_store.specs.Clauses.{Place, Store, IsOnce, slot_at, lits_at, link_at, place_link, clause_at, weakened_clause, relinked, swapped, with_place, with_swap, with_link}
 use Rattle.clause_store.specs.Index.{key_of}
@@ -42,14 +42,14 @@ swap-once xs a b lt lt2 o =
 -- ---- One entry changed
 
 -- what is known when an active clause's entry is changed
-pub record Changes (indexed : Bool) (p : Entries) (es : Table) (ids : List Noted) (id s : ℕ) (e : Entry) (f : Place → Place) : Type 0 where
+pub record Changes (indexed : Bool) (p : Entries) (es : Table) (ids : List SlotInfo) (id s : ℕ) (e : Entry) (f : Place → Place) : Type 0 where
   pub all : AreRows indexed p ids es
   pub slot : slot_at (store_of p es) id ≡ Some s
   pub shape : place_of e s ≡ f (place_of (entry_at p s) s)
   pub same_set : set_of e.lits ≡ set_of (entry_at p s).lits
   pub once : IsOnce (entry_at p s).lits → IsOnce e.lits
 
-module _ {indexed : Bool} (p : Entries) (es : Table) (ids : List Noted) (id s : ℕ) (e : Entry) (f : Place → Place) (h : Changes indexed p es ids id s e f) where
+module _ {indexed : Bool} (p : Entries) (es : Table) (ids : List SlotInfo) (id s : ℕ) (e : Entry) (f : Place → Place) (h : Changes indexed p es ids id s e f) where
   here : Found true (row es id) s
   here = found true (row es id) s (sym (slot_at-row p es id) ∙ h.slot)
 
@@ -95,16 +95,16 @@ link_at-row p es id s w e =
 
 -- ---- The two changes
 
-swap_changes : {indexed : Bool} (p : Entries) (es : Table) (ids : List Noted) (id s a b : ℕ) → AreRows indexed p ids es → slot_at (store_of p es) id ≡ Some s → a < length (entry_at p s).lits → b < length (entry_at p s).lits
+swap_changes : {indexed : Bool} (p : Entries) (es : Table) (ids : List SlotInfo) (id s a b : ℕ) → AreRows indexed p ids es → slot_at (store_of p es) id ≡ Some s → a < length (entry_at p s).lits → b < length (entry_at p s).lits
     → Changes indexed p es ids id s (record { lits = swap (entry_at p s).lits a b; one = (entry_at p s).one; two = (entry_at p s).two }) (swapped a b)
 swap_changes p es ids id s a b h e lt lt2 = record { all = h; slot = e; shape = refl; same_set = swap-set (entry_at p s).lits a b lt lt2; once = swap-once (entry_at p s).lits a b lt lt2 }
 
-link_changes : {indexed : Bool} (p : Entries) (es : Table) (ids : List Noted) (id s : ℕ) (w : Which) (to : Option ℕ) → AreRows indexed p ids es → slot_at (store_of p es) id ≡ Some s
+link_changes : {indexed : Bool} (p : Entries) (es : Table) (ids : List SlotInfo) (id s : ℕ) (w : Which) (to : Option ℕ) → AreRows indexed p ids es → slot_at (store_of p es) id ≡ Some s
     → Changes indexed p es ids id s (entry_relinked (entry_at p s) w to) (relinked w to)
 link_changes p es ids id s which.One to h e = record { all = h; slot = e; shape = refl; same_set = refl; once = λ o. o }
 link_changes p es ids id s which.Two to h e = record { all = h; slot = e; shape = refl; same_set = refl; once = λ o. o }
 
-module _ {indexed : Bool} (p p' : Entries) (es : Table) (ids : List Noted) (m : Store) (id s : ℕ) (v : store_of p es ≡ m) (h : AreRows indexed p ids es) (e : slot_at m id ≡ Some s) where
+module _ {indexed : Bool} (p p' : Entries) (es : Table) (ids : List SlotInfo) (m : Store) (id s : ℕ) (v : store_of p es ≡ m) (h : AreRows indexed p ids es) (e : slot_at m id ≡ Some s) where
   slot_inside : slot_at (store_of p es) id ≡ Some s
   slot_inside = ap (λ z. slot_at z id) v ∙ e
 

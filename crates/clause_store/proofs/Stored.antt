@@ -15,12 +15,12 @@ use Rattle.lit_pool.specs.declared.Which.TheVariants as which
 use Rattle.lit_pool.proofs.Slots.{get-insert_slot, get-remove_slot}
 use Rattle.clause_store.specs.declared.table.Kept.{Kept}
 use Rattle.clause_store.specs.declared.table.Cell.{Cell}
-use Rattle.clause_store.specs.declared.rows.Noted.{Noted}
+use Rattle.clause_store.specs.declared.rows.SlotInfo.{SlotInfo}
 use Rattle.clause_store.specs.declared.table.Table.{Table}
 use Rattle.clause_store.specs.declared.index.Pairs.{Pairs}
 use Rattle.clause_store.specs.Clauses.{ClauseEntry, Place, Store, IsOnce, firsts, slot_at, kept_at, lits_at, literals_at, new_clause, active_clause, is_active, is_held, is_weakened, IsFresh, IsStore, IsRestored, IsActiveWith, IsWeakenedWith}
 use Rattle.clause_store.specs.Index.{has_pair, key_of}
-use Rattle.clause_store.specs.Rows.{entry_of, place_of, held_of, store_of, row_if, listed, entries, dense_row, far_row, row, literals_in, IsRowWith, is_state, stands, row_slot, with_state, noted, kept_of, IsListed, SameListed, IsRow, ArePooled, AreRows, IsIndex, IsInside}
+use Rattle.clause_store.specs.Rows.{entry_of, place_of, held_of, store_of, row_if, listed, entries, dense_row, far_row, row, literals_in, IsRowWith, is_state, stands, row_slot, with_state, noted, kept_of, IsListed, SameListed, IsRow, ArePooled, AreRows, IsIndex, IsStoreInside}
 use Rattle.clause_store.proofs.Lists.{set_of-firsts, once-firsts}
 
 -- ---- The entries of a table
@@ -138,17 +138,21 @@ store_same p es es' rows = same _ _ (λ q. get-store_of p es' q ∙ ap (λ o. op
 
 -- ---- What holds inside
 
-pub inside-same : {indexed : Bool} (p : Entries) (es es' : Table) (a a' w w' : Pairs) (ids : List Noted)
+pub inside-same : {indexed : Bool} (p : Entries) (es es' : Table) (a a' w w' : Pairs) (ids : List SlotInfo)
     → ((q : ℕ) → row es' q ≡ row es q) → ((k i : ℕ) → has_pair a' k i ≡ has_pair a k i) → ((k i : ℕ) → has_pair w' k i ≡ has_pair w k i)
-    → IsInside indexed p es a w ids → IsInside indexed p es' a' w' ids
+    → IsStoreInside indexed p es a w ids → IsStoreInside indexed p es' a' w' ids
 inside-same p es es' a a' w w' ids rows in_a in_w h = record {
   rows = λ q k e. h.rows q k (sym (rows q) ∙ e);
   active_index = λ t key q. in_a key q ∙ h.active_index t key q ∙ ap (stands ids true key) (sym (rows q));
   weakened_index = λ t key q. in_w key q ∙ h.weakened_index t key q ∙ ap (stands ids false key) (sym (rows q));
 }
 
+-- the same fields under other names
+pub inside-framed : (i j : Bool) (p : Entries) (es : Table) (a w v : Pairs) (ids : List SlotInfo) → j ≡ i → v ≡ w → IsStoreInside i p es a w ids → IsStoreInside j p es a v ids
+inside-framed i j p es a w v ids e f h = subst (λ b. IsStoreInside b p es a v ids) (sym e) (subst (λ x. IsStoreInside i p es a x ids) (sym f) h)
+
 -- the slots of two rows differ
-pub slots_differ : {indexed : Bool} (p : Entries) (es : Table) (ids : List Noted) (q r : ℕ) (k j : Kept) → AreRows indexed p ids es → nat_eq r q ≡ false → row es q ≡ Some k → row es r ≡ Some j → k.slot ≢ j.slot
+pub slots_differ : {indexed : Bool} (p : Entries) (es : Table) (ids : List SlotInfo) (q r : ℕ) (k j : Kept) → AreRows indexed p ids es → nat_eq r q ≡ false → row es q ≡ Some k → row es r ≡ Some j → k.slot ≢ j.slot
 slots_differ p es ids q r k j h n e f same_slot =
     let a : IsListed ids k.slot q = (h q k e).listed in
     let b : IsListed ids j.slot r = (h r j f).listed in
@@ -156,7 +160,7 @@ slots_differ p es ids q r k j h n e f same_slot =
     both_ways _ n (eq-eqb r q (sym c))
 
 -- a slot that isn't live is no row's
-pub slot_dead : {indexed : Bool} (p : Entries) (es : Table) (ids : List Noted) (s q : ℕ) (k : Kept) → AreRows indexed p ids es → get p s ≡ None → row es q ≡ Some k → k.slot ≢ s
+pub slot_dead : {indexed : Bool} (p : Entries) (es : Table) (ids : List SlotInfo) (s q : ℕ) (k : Kept) → AreRows indexed p ids es → get p s ≡ None → row es q ≡ Some k → k.slot ≢ s
 slot_dead p es ids s q k h dead e same_slot =
     let l : is_some (get p s) ≡ true = subst (λ z. is_some (get p z) ≡ true) same_slot (h q k e).live in
     both_ways _ (ap is_some dead) l
@@ -187,7 +191,7 @@ freed p s e dead = same_map nat_cmp_total nat_cmp-IsAntisymmetric _ _ (λ q. get
     ]
 
 -- an id noted at a slot that isn't live
-module _ {indexed : Bool} (p : Entries) (es : Table) (ids ids' : List Noted) (s : ℕ) (h : AreRows indexed p ids es) (dead : get p s ≡ None) (note : SameListed ids ids' s) where
+module _ {indexed : Bool} (p : Entries) (es : Table) (ids ids' : List SlotInfo) (s : ℕ) (h : AreRows indexed p ids es) (dead : get p s ≡ None) (note : SameListed ids ids' s) where
   note_of : (q : ℕ) (k : Kept) → row es q ≡ Some k → (k.slot < length ids') × (noted ids' k.slot ≡ noted ids k.slot)
   note_of q k e = note k.slot (slot_dead p es ids s q k h dead e) (h q k e).listed.0
 
@@ -201,7 +205,7 @@ module _ {indexed : Bool} (p : Entries) (es : Table) (ids ids' : List Noted) (s 
       stands-noted c q None e = refl
       stands-noted c q (Some k) e = ap (λ z. nat_eq z.key c && is_state state k.active) (sym (note_of q k e).1)
 
-pub inside-noted : {indexed : Bool} (p : Entries) (es : Table) (a w : Pairs) (ids ids' : List Noted) (s : ℕ) → IsInside indexed p es a w ids → get p s ≡ None → SameListed ids ids' s → IsInside indexed p es a w ids'
+pub inside-noted : {indexed : Bool} (p : Entries) (es : Table) (a w : Pairs) (ids ids' : List SlotInfo) (s : ℕ) → IsStoreInside indexed p es a w ids → get p s ≡ None → SameListed ids ids' s → IsStoreInside indexed p es a w ids'
 inside-noted p es a w ids ids' s h dead note = record {
   rows = rows-noted p es ids ids' s h.rows dead note;
   active_index = index-noted p es ids ids' s h.rows dead note true a h.active_index;
@@ -209,7 +213,7 @@ inside-noted p es a w ids ids' s h dead note = record {
 }
 
 -- rows with one put, where the entries of the others stay
-pub rows_put : {indexed : Bool} (p p' : Entries) (es es' : Table) (ids : List Noted) (id : ℕ) (k : Kept)
+pub rows_put : {indexed : Bool} (p p' : Entries) (es es' : Table) (ids : List SlotInfo) (id : ℕ) (k : Kept)
     → ((q : ℕ) → row es' q ≡ cond (nat_eq id q) (Some k) (row es q))
     → ((q : ℕ) (r : Kept) → nat_eq id q ≡ false → row es q ≡ Some r → get p' r.slot ≡ get p r.slot)
     → IsRow indexed (get p' k.slot) ids id k → AreRows indexed p ids es → AreRows indexed p' ids es'
@@ -223,7 +227,7 @@ rows_put {indexed} p p' es es' ids id k rows entries here h = λ q r e. by_case 
         let g : row es q ≡ Some r = ap (λ b. cond b (Some k) (row es q)) (sym n) ∙ sym (rows q) ∙ e in
         subst (λ z. IsRow indexed z ids q r) (sym (entries q r n g)) (h q r g)
 
-rows_cut : {indexed : Bool} (p p' : Entries) (es es' : Table) (ids : List Noted) (id : ℕ)
+rows_cut : {indexed : Bool} (p p' : Entries) (es es' : Table) (ids : List SlotInfo) (id : ℕ)
     → ((q : ℕ) → row es' q ≡ cond (nat_eq id q) None (row es q))
     → ((q : ℕ) (r : Kept) → nat_eq id q ≡ false → row es q ≡ Some r → get p' r.slot ≡ get p r.slot)
     → AreRows indexed p ids es → AreRows indexed p' ids es'
@@ -239,7 +243,7 @@ rows_cut {indexed} p p' es es' ids id rows entries h = λ q r e. by_case q r (ca
 -- ---- The indices
 
 -- an index with a pair, and the row of its id as it stands
-index_put : {indexed : Bool} (ids : List Noted) (state : Bool) (s s' : Pairs) (es es' : Table) (key id : ℕ) (k : Kept) → IsIndex indexed ids state s es
+index_put : {indexed : Bool} (ids : List SlotInfo) (state : Bool) (s s' : Pairs) (es es' : Table) (key id : ℕ) (k : Kept) → IsIndex indexed ids state s es
     → (IsTrue indexed → (c i : ℕ) → has_pair s' c i ≡ ((nat_eq key c && nat_eq id i) || has_pair s c i))
     → ((q : ℕ) → row es' q ≡ cond (nat_eq id q) (Some k) (row es q))
     → (IsTrue indexed → (noted ids k.slot).key ≡ key) → is_state state k.active ≡ true → ((c : ℕ) → stands ids state c (row es id) ≡ false)
@@ -261,7 +265,7 @@ index_put ids state s s' es es' key id k h pairs rows keyed_if on off = λ t c q
         drop_and false d = refl
 
 -- an index without the pair of a row that has left its state
-index_cut : {indexed : Bool} (ids : List Noted) (state : Bool) (s s' : Pairs) (es es' : Table) (key id : ℕ) (k : Kept) → IsIndex indexed ids state s es
+index_cut : {indexed : Bool} (ids : List SlotInfo) (state : Bool) (s s' : Pairs) (es es' : Table) (key id : ℕ) (k : Kept) → IsIndex indexed ids state s es
     → row es id ≡ Some k → (IsTrue indexed → (noted ids k.slot).key ≡ key)
     → (IsTrue indexed → (c i : ℕ) → has_pair s' c i ≡ (not (nat_eq key c && nat_eq id i) && has_pair s c i))
     → ((c : ℕ) → stands ids state c (row es' id) ≡ false) → ((q : ℕ) → nat_eq id q ≡ false → row es' q ≡ row es q)
@@ -284,7 +288,7 @@ index_cut ids state s s' es es' key id k h here keyed_if pairs off others = λ t
     ]
 
 -- an index that a change of one row doesn't touch
-index_kept : {indexed : Bool} (ids : List Noted) (state : Bool) (s : Pairs) (es es' : Table) (id : ℕ) → IsIndex indexed ids state s es
+index_kept : {indexed : Bool} (ids : List SlotInfo) (state : Bool) (s : Pairs) (es es' : Table) (id : ℕ) → IsIndex indexed ids state s es
     → ((c : ℕ) → stands ids state c (row es' id) ≡ stands ids state c (row es id)) → ((q : ℕ) → nat_eq id q ≡ false → row es' q ≡ row es q)
     → IsIndex indexed ids state s es'
 index_kept ids state s es es' id h here others = λ t c q. h t c q ∙ at c q
@@ -350,13 +354,13 @@ lits_at-row p es q s e =
       | inr n ↦ let g : None ≡ Some s = rw n at f in absurd (none-some s g)
     ]
 
-pub pooled : {indexed : Bool} (p : Entries) (es : Table) (ids : List Noted) → AreRows indexed p ids es → ArePooled p es
+pub pooled : {indexed : Bool} (p : Entries) (es : Table) (ids : List SlotInfo) → AreRows indexed p ids es → ArePooled p es
 pooled p es ids h = λ q k e. let r = h q k e in (r.live, r.once)
 
 pub set_of_set : (ls : List ℕ) → set_of (set_of ls) ≡ set_of ls
 set_of_set ls = sym (set_of-unique (set_of ls) (set_of ls) (ascends_set_of ls) (λ l. refl))
 
-pub is_store : {indexed : Bool} (p : Entries) (es : Table) (ids : List Noted) → AreRows indexed p ids es → IsStore (store_of p es)
+pub is_store : {indexed : Bool} (p : Entries) (es : Table) (ids : List SlotInfo) → AreRows indexed p ids es → IsStore (store_of p es)
 is_store p es ids h = record { slots_apart = apart; same_literals = lists; sets = sets }
   where
     apart : (a b s : ℕ) → slot_at (store_of p es) a ≡ Some s → slot_at (store_of p es) b ≡ Some s → a ≡ b
@@ -401,7 +405,7 @@ row_literals state p es set i on e = lits (row es i) on (sym (literals_at-row p 
     lits (Some k) f g = ap (λ z. Some z) g
 
 -- a pair of an index whose row has the set is that of an id in this state
-pub index_at : {indexed : Bool} (ids : List Noted) (state : Bool) (p : Entries) (es : Table) (s : Pairs) (set : List ℕ) (i : ℕ) → IsIndex indexed ids state s es → IsTrue indexed
+pub index_at : {indexed : Bool} (ids : List SlotInfo) (state : Bool) (p : Entries) (es : Table) (s : Pairs) (set : List ℕ) (i : ℕ) → IsIndex indexed ids state s es → IsTrue indexed
     → has_pair s (key_of set) i ≡ true → literals_in p es i ≡ Some set → IsRowWith state p es set i
 index_at ids state p es s set i h t m e = (on (row es i) (sym (h t (key_of set) i) ∙ m), e)
   where
@@ -410,7 +414,7 @@ index_at ids state p es s set i h t m e = (on (row es i) (sym (h t (key_of set) 
     on (Some k) f = let g : is_state state k.active ≡ true = (and_parts (nat_eq (noted ids k.slot).key (key_of set)) _ f).1 in rw g refl
 
 -- the index has the id of a row in its state
-pub index_from : {indexed : Bool} (state : Bool) (p : Entries) (es : Table) (ids : List Noted) (s : Pairs) (set : List ℕ) (i : ℕ) → AreRows indexed p ids es → IsIndex indexed ids state s es → IsTrue indexed
+pub index_from : {indexed : Bool} (state : Bool) (p : Entries) (es : Table) (ids : List SlotInfo) (s : Pairs) (set : List ℕ) (i : ℕ) → AreRows indexed p ids es → IsIndex indexed ids state s es → IsTrue indexed
     → IsRowWith state p es set i → has_pair s (key_of set) i ≡ true
 index_from state p es ids s set i rows h t w = h t (key_of set) i ∙ stand (row es i) refl w.0 w.1
   where
@@ -424,7 +428,7 @@ index_from state p es ids s set i rows h t w = h t (key_of set) i ∙ stand (row
         ]
 
 -- the id of a row is noted of a slot
-pub row_noted : {indexed : Bool} (state : Bool) (p : Entries) (es : Table) (ids : List Noted) (set : List ℕ) (i : ℕ) → AreRows indexed p ids es → IsRowWith state p es set i → (s : ℕ) × (s < length ids) × ((noted ids s).id ≡ i)
+pub row_noted : {indexed : Bool} (state : Bool) (p : Entries) (es : Table) (ids : List SlotInfo) (set : List ℕ) (i : ℕ) → AreRows indexed p ids es → IsRowWith state p es set i → (s : ℕ) × (s < length ids) × ((noted ids s).id ≡ i)
 row_noted state p es ids set i h w = at (row es i) refl w.0
   where
     at : (o : Option Kept) → row es i ≡ o → is_some (row_slot state o) ≡ true → (s : ℕ) × (s < length ids) × ((noted ids s).id ≡ i)
@@ -432,14 +436,14 @@ row_noted state p es ids set i h w = at (row es i) refl w.0
     at (Some k) r f = let l = (h i k r).listed in (k.slot, l.0, l.1)
 
 -- what is least among the ids that are noted is least among those of the rows
-pub least_id : {indexed : Bool} (state : Bool) (p : Entries) (es : Table) (ids : List Noted) (set : List ℕ) (i : ℕ) → AreRows indexed p ids es
+pub least_id : {indexed : Bool} (state : Bool) (p : Entries) (es : Table) (ids : List SlotInfo) (set : List ℕ) (i : ℕ) → AreRows indexed p ids es
     → ((s : ℕ) → s < length ids → IsRowWith state p es set (noted ids s).id → i ≤ (noted ids s).id) → (x : ℕ) → IsRowWith state p es set x → i ≤ x
 least_id state p es ids set i rows h x w =
     let n = row_noted state p es ids set x rows w in
     subst (λ z. i ≤ z) n.2 (h n.0 n.1 (subst (λ z. IsRowWith state p es set z) (sym n.2) w))
 
 -- where no id that is noted is such a row's, none is
-pub none_id : {indexed : Bool} (state : Bool) (p : Entries) (es : Table) (ids : List Noted) (set : List ℕ) → AreRows indexed p ids es
+pub none_id : {indexed : Bool} (state : Bool) (p : Entries) (es : Table) (ids : List SlotInfo) (set : List ℕ) → AreRows indexed p ids es
     → ((s : ℕ) → s < length ids → IsRowWith state p es set (noted ids s).id → ⊥) → (x : ℕ) → IsRowWith state p es set x → ⊥
 none_id state p es ids set rows h x w =
     let n = row_noted state p es ids set x rows w in
@@ -462,8 +466,8 @@ here_of : (es es' : Table) (id : ℕ) (o : Option Kept) → ((q : ℕ) → row e
 here_of es es' id o rows = rows id ∙ ap (λ b. cond b o (row es id)) (eq-eqb id id refl)
 
 -- what is known when a row is entered
-pub record Adds (indexed : Bool) (p : Entries) (es es' : Table) (a a' w : Pairs) (ids : List Noted) (id key s : ℕ) (ls : List ℕ) : Type 0 where
-  pub inside : IsInside indexed p es a w ids
+pub record Adds (indexed : Bool) (p : Entries) (es es' : Table) (a a' w : Pairs) (ids : List SlotInfo) (id key s : ℕ) (ls : List ℕ) : Type 0 where
+  pub inside : IsStoreInside indexed p es a w ids
   pub dead : get p s ≡ None
   pub listed : (s < length ids) × (noted ids s ≡ record { id = id; key = key })
   pub free : row es id ≡ None
@@ -471,7 +475,7 @@ pub record Adds (indexed : Bool) (p : Entries) (es es' : Table) (a a' w : Pairs)
   pub rows : (q : ℕ) → row es' q ≡ cond (nat_eq id q) (Some (record { slot = s; active = true })) (row es q)
   pub pairs : IsTrue indexed → (k i : ℕ) → has_pair a' k i ≡ ((nat_eq key k && nat_eq id i) || has_pair a k i)
 
-module _ {indexed : Bool} (p : Entries) (es es' : Table) (a a' w : Pairs) (ids : List Noted) (id key s : ℕ) (ls : List ℕ) (h : Adds indexed p es es' a a' w ids id key s ls) where
+module _ {indexed : Bool} (p : Entries) (es es' : Table) (a a' w : Pairs) (ids : List SlotInfo) (id key s : ℕ) (ls : List ℕ) (h : Adds indexed p es es' a a' w ids id key s ls) where
   entries-added : (q : ℕ) (r : Kept) → nat_eq id q ≡ false → row es q ≡ Some r → get (insert p s (new_entry (firsts ls))) r.slot ≡ get p r.slot
   entries-added q r n e = get_insert_other p s r.slot (new_entry (firsts ls)) (slot_dead p es ids s q r h.inside.rows h.dead e)
 
@@ -482,7 +486,7 @@ module _ {indexed : Bool} (p : Entries) (es es' : Table) (a a' w : Pairs) (ids :
       store_put p (insert p s (new_entry (firsts ls))) es es' id k (new_clause ls s) h.rows entries-added
       (ap (λ o. held_of o k) e ∙ (λ i. active_clause (set_of-firsts ls i) (firsts ls) s))
 
-  pub inside-added : IsInside indexed (insert p s (new_entry (firsts ls))) es' a' w ids
+  pub inside-added : IsStoreInside indexed (insert p s (new_entry (firsts ls))) es' a' w ids
   inside-added =
       let k : Kept = record { slot = s; active = true } in
       let e : get (insert p s (new_entry (firsts ls))) s ≡ Some (new_entry (firsts ls)) = get_insert_same p s (new_entry (firsts ls)) in
@@ -503,22 +507,22 @@ module _ {indexed : Bool} (p : Entries) (es es' : Table) (a a' w : Pairs) (ids :
       let f = found true (row es q) s (sym (slot_at-row p es q) ∙ e) in slot_dead p es ids s q f.k h.inside.rows h.dead f.is f.slot
 
 -- what is known when an active row leaves
-pub record Cuts (indexed : Bool) (p : Entries) (es es' : Table) (a a' w : Pairs) (ids : List Noted) (id key : ℕ) (k : Kept) : Type 0 where
-  pub inside : IsInside indexed p es a w ids
+pub record Cuts (indexed : Bool) (p : Entries) (es es' : Table) (a a' w : Pairs) (ids : List SlotInfo) (id key : ℕ) (k : Kept) : Type 0 where
+  pub inside : IsStoreInside indexed p es a w ids
   pub here : row es id ≡ Some k
   pub on : k.active ≡ true
   pub keyed : IsTrue indexed → (noted ids k.slot).key ≡ key
   pub rows : (q : ℕ) → row es' q ≡ cond (nat_eq id q) None (row es q)
   pub pairs : IsTrue indexed → (c i : ℕ) → has_pair a' c i ≡ (not (nat_eq key c && nat_eq id i) && has_pair a c i)
 
-module _ {indexed : Bool} (p : Entries) (es es' : Table) (a a' w : Pairs) (ids : List Noted) (id key : ℕ) (k : Kept) (h : Cuts indexed p es es' a a' w ids id key k) where
+module _ {indexed : Bool} (p : Entries) (es es' : Table) (a a' w : Pairs) (ids : List SlotInfo) (id key : ℕ) (k : Kept) (h : Cuts indexed p es es' a a' w ids id key k) where
   entries-cut : (q : ℕ) (r : Kept) → nat_eq id q ≡ false → row es q ≡ Some r → get (remove p k.slot) r.slot ≡ get p r.slot
   entries-cut q r n e = get_remove_other p k.slot r.slot (slots_differ p es ids q id r k h.inside.rows n e h.here)
 
   pub store-cut : store_of (remove p k.slot) es' ≡ remove (store_of p es) id
   store-cut = store_cut p (remove p k.slot) es es' id h.rows entries-cut
 
-  pub inside-cut : IsInside indexed (remove p k.slot) es' a' w ids
+  pub inside-cut : IsStoreInside indexed (remove p k.slot) es' a' w ids
   inside-cut = record {
     rows = rows_cut p (remove p k.slot) es es' ids id h.rows entries-cut h.inside.rows;
     active_index = index_cut ids true a a' es es' key id k h.inside.active_index h.here h.keyed h.pairs (λ c. ap (stands ids true c) (here_of es es' id None h.rows)) (others_of es es' id None h.rows);
@@ -531,7 +535,7 @@ module _ {indexed : Bool} (p : Entries) (es es' : Table) (a a' w : Pairs) (ids :
       and_false false = refl
 
 -- what is known when a row goes from one state to the other
-pub record Switches (indexed : Bool) (p : Entries) (es es' : Table) (from from' to to' : Pairs) (ids : List Noted) (id key : ℕ) (k : Kept) (b : Bool) : Type 0 where
+pub record Switches (indexed : Bool) (p : Entries) (es es' : Table) (from from' to to' : Pairs) (ids : List SlotInfo) (id key : ℕ) (k : Kept) (b : Bool) : Type 0 where
   pub all : AreRows indexed p ids es
   pub from_index : IsIndex indexed ids (not b) from es
   pub to_index : IsIndex indexed ids b to es
@@ -558,7 +562,7 @@ and_none : (a b : Bool) → b ≡ false → (a && b) ≡ false
 and_none true b e = e
 and_none false b e = refl
 
-module _ {indexed : Bool} (p p' : Entries) (es es' : Table) (from from' to to' : Pairs) (ids : List Noted) (id key : ℕ) (k : Kept) (b : Bool) (h : Switches indexed p es es' from from' to to' ids id key k b)
+module _ {indexed : Bool} (p p' : Entries) (es es' : Table) (from from' to to' : Pairs) (ids : List SlotInfo) (id key : ℕ) (k : Kept) (b : Bool) (h : Switches indexed p es es' from from' to to' ids id key k b)
     (entries : (t : ℕ) → t ≢ k.slot → get p' t ≡ get p t) (e : Entry) (here : get p' k.slot ≡ Some e) (lits : e.lits ≡ (entry_of (get p k.slot)).lits) where
   entries-switched : (q : ℕ) (r : Kept) → nat_eq id q ≡ false → row es q ≡ Some r → get p' r.slot ≡ get p r.slot
   entries-switched q r n f = entries r.slot (slots_differ p es ids q id r k h.all n f h.here)
@@ -585,16 +589,16 @@ module _ {indexed : Bool} (p p' : Entries) (es es' : Table) (from from' to to' :
 
 -- ---- At a slot
 
-pub listed_at : {indexed : Bool} (p : Entries) (es : Table) (ids : List Noted) (m : Store) (id s : ℕ) → store_of p es ≡ m → AreRows indexed p ids es → slot_at m id ≡ Some s → IsListed ids s id
+pub listed_at : {indexed : Bool} (p : Entries) (es : Table) (ids : List SlotInfo) (m : Store) (id s : ℕ) → store_of p es ≡ m → AreRows indexed p ids es → slot_at m id ≡ Some s → IsListed ids s id
 listed_at p es ids m id s v h e =
     let f = found true (row es id) s (sym (slot_at-row p es id) ∙ ap (λ z. slot_at z id) v ∙ e) in
     subst (λ z. IsListed ids z id) f.slot (h id f.k f.is).listed
 
 -- the slot of a row in a state is noted
-pub within_noted : {indexed : Bool} (state : Bool) (p : Entries) (es : Table) (ids : List Noted) (id s : ℕ) → AreRows indexed p ids es → row_slot state (row es id) ≡ Some s → s < length ids
+pub within_noted : {indexed : Bool} (state : Bool) (p : Entries) (es : Table) (ids : List SlotInfo) (id s : ℕ) → AreRows indexed p ids es → row_slot state (row es id) ≡ Some s → s < length ids
 within_noted state p es ids id s h e = let f = found state (row es id) s e in subst (λ z. z < length ids) f.slot (h id f.k f.is).listed.0
 
-pub live_at : {indexed : Bool} (p : Entries) (es : Table) (ids : List Noted) (m : Store) (id s : ℕ) → store_of p es ≡ m → AreRows indexed p ids es → slot_at m id ≡ Some s → is_some (get p s) ≡ true
+pub live_at : {indexed : Bool} (p : Entries) (es : Table) (ids : List SlotInfo) (m : Store) (id s : ℕ) → store_of p es ≡ m → AreRows indexed p ids es → slot_at m id ≡ Some s → is_some (get p s) ≡ true
 live_at p es ids m id s v h e =
     let f = found true (row es id) s (sym (slot_at-row p es id) ∙ ap (λ z. slot_at z id) v ∙ e) in
     subst (λ z. is_some (get p z) ≡ true) f.slot (h id f.k f.is).live
@@ -653,7 +657,7 @@ free_row es q = by_row (row es q)
 
 -- ---- A row's entry
 
-pub entry_live : {indexed : Bool} (p : Entries) (es : Table) (ids : List Noted) (id : ℕ) (k : Kept) → AreRows indexed p ids es → row es id ≡ Some k → (e : Entry) × (get p k.slot ≡ Some e)
+pub entry_live : {indexed : Bool} (p : Entries) (es : Table) (ids : List SlotInfo) (id : ℕ) (k : Kept) → AreRows indexed p ids es → row es id ≡ Some k → (e : Entry) × (get p k.slot ≡ Some e)
 entry_live p es ids id k h r = of (get p k.slot) (h id k r).live
   where
     of : (o : Option Entry) → is_some o ≡ true → (e : Entry) × (o ≡ Some e)
@@ -685,7 +689,7 @@ unlinked_at p s e g =
     get_insert_same (with_link p s which.One None) s _ ∙ ap (λ z. Some (record { lits = z.lits; one = z.one; two = None })) first
 
 -- a slot of a weakened row is no active clause's
-pub is_fresh : {indexed : Bool} (p : Entries) (es : Table) (ids : List Noted) (id : ℕ) (k : Kept) → AreRows indexed p ids es → row es id ≡ Some k → is_state false k.active ≡ true → IsFresh (store_of p es) k.slot
+pub is_fresh : {indexed : Bool} (p : Entries) (es : Table) (ids : List SlotInfo) (id : ℕ) (k : Kept) → AreRows indexed p ids es → row es id ≡ Some k → is_state false k.active ≡ true → IsFresh (store_of p es) k.slot
 is_fresh p es ids id k h r off q e =
     let f = found true (row es q) k.slot (sym (slot_at-row p es q) ∙ e) in
     elim (cases_Bool (nat_eq id q)) [
@@ -694,7 +698,7 @@ is_fresh p es ids id k h r off q e =
       | inr n ↦ slots_differ p es ids q id f.k k h n f.is r f.slot
     ]
 
-pub restored : {indexed : Bool} (p : Entries) (es : Table) (ids : List Noted) (m : Store) (id : ℕ) (k : Kept) (e : Entry) → store_of p es ≡ m → AreRows indexed p ids es → row es id ≡ Some k → is_state false k.active ≡ true → get p k.slot ≡ Some e
+pub restored : {indexed : Bool} (p : Entries) (es : Table) (ids : List SlotInfo) (m : Store) (id : ℕ) (k : Kept) (e : Entry) → store_of p es ≡ m → AreRows indexed p ids es → row es id ≡ Some k → is_state false k.active ≡ true → get p k.slot ≡ Some e
     → (n : Store) → ((c : ClauseEntry) → held_of (Some (record { lits = e.lits; one = None; two = None })) (with_state true k) ≡ c → n ≡ insert (store_of p es) id c) → IsRestored m id n
 restored p es ids m id k e v h r off g n change =
     let set : set_of e.lits ≡ literals_at m id = literals_here p es m id k e v r g in

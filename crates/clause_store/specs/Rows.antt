@@ -8,7 +8,7 @@ use Rattle.lit_pool.specs.Entry.{Entry, Entries, new_entry}
 use Rattle.clause_store.specs.declared.table.Kept.{Kept}
 use Rattle.clause_store.specs.declared.table.Cell.{Cell}
 use Rattle.clause_store.specs.declared.table.Cell.TheVariants.{Free, Active, Weakened}
-use Rattle.clause_store.specs.declared.rows.Noted.{Noted}
+use Rattle.clause_store.specs.declared.rows.SlotInfo.{SlotInfo}
 use Rattle.clause_store.specs.declared.table.Table.{Table}
 use Rattle.clause_store.specs.Clauses.{ClauseEntry, Place, Store, IsOnce}
 use Rattle.clause_store.specs.declared.index.Pairs.{Pairs}
@@ -72,11 +72,11 @@ is_state true b = b
 is_state false b = if b then false else true
 
 -- what is noted of a slot
-abbrev pub noted : List Noted → ℕ → Noted
+abbrev pub noted : List SlotInfo → ℕ → SlotInfo
 noted ids s = get_or ids s (record { id = 0; key = 0 })
 
 -- whether a row has this key and is in this state
-abbrev pub stands : List Noted → Bool → ℕ → Option Kept → Bool
+abbrev pub stands : List SlotInfo → Bool → ℕ → Option Kept → Bool
 stands ids state key None = false
 stands ids state key (Some k) = nat_eq (noted ids k.slot).key key && is_state state k.active
 
@@ -90,11 +90,11 @@ abbrev pub with_state : Bool → Kept → Kept
 with_state b k = record { slot = k.slot; active = b }
 
 -- this id is noted of a slot
-abbrev pub IsListed : List Noted → ℕ → ℕ → Type 0
+abbrev pub IsListed : List SlotInfo → ℕ → ℕ → Type 0
 IsListed ids s q = (s < length ids) × ((noted ids s).id ≡ q)
 
 -- what is noted is as it was but at this slot
-abbrev pub SameListed : List Noted → List Noted → ℕ → Type 0
+abbrev pub SameListed : List SlotInfo → List SlotInfo → ℕ → Type 0
 SameListed old new s = (t : ℕ) → t ≢ s → t < length old → (t < length new) × (noted new t ≡ noted old t)
 
 -- an id is that of a row in this state with this set
@@ -102,7 +102,7 @@ abbrev pub IsRowWith : Bool → Entries → Table → List ℕ → ℕ → Type 
 IsRowWith state pool es set q = IsTrue (is_some (row_slot state (row es q))) × (literals_in pool es q ≡ Some set)
 
 -- what holds of a row of an id, with its entry in the pool; its key is noted in a store with an index
-pub record IsRow (indexed : Bool) (o : Option Entry) (ids : List Noted) (q : ℕ) (k : Kept) : Type 0 where
+pub record IsRow (indexed : Bool) (o : Option Entry) (ids : List SlotInfo) (q : ℕ) (k : Kept) : Type 0 where
   pub live : IsTrue (is_some o)
   pub listed : IsListed ids k.slot q
   pub once : IsOnce (entry_of o).lits
@@ -113,15 +113,15 @@ abbrev pub ArePooled : Entries → Table → Type 0
 ArePooled pool es = (q : ℕ) (k : Kept) → row es q ≡ Some k → IsTrue (is_some (get pool k.slot)) × IsOnce (entry_of (get pool k.slot)).lits
 
 -- each row holds
-abbrev pub AreRows : Bool → Entries → List Noted → Table → Type 0
+abbrev pub AreRows : Bool → Entries → List SlotInfo → Table → Type 0
 AreRows indexed pool ids es = (q : ℕ) (k : Kept) → row es q ≡ Some k → IsRow indexed (get pool k.slot) ids q k
 
 -- the index has the pairs of the rows in this state, in a store that keeps an index
-abbrev pub IsIndex : Bool → List Noted → Bool → Pairs → Table → Type 0
+abbrev pub IsIndex : Bool → List SlotInfo → Bool → Pairs → Table → Type 0
 IsIndex indexed ids state s es = IsTrue indexed → (key q : ℕ) → has_pair s key q ≡ stands ids state key (row es q)
 
 -- what holds inside every store, with an index or without
-pub record IsInside (indexed : Bool) (pool : Entries) (es : Table) (active weakened : Pairs) (ids : List Noted) : Type 0 where
+pub record IsStoreInside (indexed : Bool) (pool : Entries) (es : Table) (active weakened : Pairs) (ids : List SlotInfo) : Type 0 where
   pub rows : AreRows indexed pool ids es
   pub active_index : IsIndex indexed ids true active es
   pub weakened_index : IsIndex indexed ids false weakened es

@@ -1,7 +1,12 @@
 //! Clauses by id, each active or weakened. The literals of a clause lie in a pool, each once, and the pool's slot is the
 //! name by which propagation speaks of an active clause. An ordinary id is found by one read of a table, and one too large
-//! for the count of clauses through a map. The ids of a literal set are found by the set's key: one through a map, and the
-//! further ids of a key through ordered pairs of key and id. A store whose callers name clauses by ids keeps no such index.
+//! for the count of clauses through a map, so that a few large ids take no long table.
+//!
+//! A proof without ids names a clause by its literals, in any order. The clauses of a literal set are found by a key of the
+//! set that doesn't depend on the order, as DRAT-trim finds them (N. Wetzler, M. Heule and W. Hunt, 2014): a sum of one
+//! scrambled number for each literal. One id of a key stands in a map, and the further ids in ordered pairs of key and id.
+//! Without it each deletion would look at every clause, and a proof of a million deletions would take days. A clause that is
+//! found is compared, since different sets may share a key. A store whose callers name clauses by ids keeps no such index.
 #![tactic(auto)]
 
 ghost use Rattle.std.specs.Prelude.{◌≡◌, ℕ, ◌<◌, ◌≤◌, List, length, slice_index, OnOk, IfOk, IfErr, IfSome, IfNone, IsTrue, true, false, Some, None};
@@ -9,6 +14,7 @@ ghost use Rattle.std.specs.FinMap as finmap;
 ghost use Rattle.clause_store.specs.Clauses.{slot_at, lits_at, is_active, is_weakened, is_held, IsSlot, IsFresh, IsActiveWith, IsWeakenedWith, IsRestored, literals_at, kept_at, link_at, new_clause, weakened_clause, with_link, with_swap, IsStore};
 ghost use Rattle.clause_store.specs.declared.StoreFault.TheVariants as fault;
 
+use crate::rows::{Rows, SlotInfo};
 use lit_pool::Pool;
 pub use lit_pool::{Slot, Which};
 use lits::{Lit, LitSet};
@@ -38,12 +44,9 @@ pub enum StoreFault {
 #[derive(Drop)]
 pub struct Store {
     pool: Pool,
-    clauses: table::Table,
-    active: index::Pairs,
-    weakened: index::Pairs,
-    noted: Vec<rows::Noted>,
-    // Whether the two indices are kept.
-    indexed: bool,
+    rows: Rows,
+    // for each slot by its number
+    noted: Vec<SlotInfo>,
     alloc: Global,
 }
 
@@ -57,11 +60,11 @@ impl Model for Store {
 
     ghost coded = { finmap.code coded_ℕ clause_code };
 
-    ghost use Rattle.clause_store.specs.Rows.{store_of, IsInside};
+    ghost use Rattle.clause_store.specs.Rows.{store_of, IsStoreInside};
 
-    ghost view = { λ s. store_of s.pool s.clauses };
+    ghost view = { λ s. store_of s.pool s.rows.clauses };
 
-    ghost invariant = { λ s. IsInside s.indexed s.pool s.clauses s.active s.weakened s.noted.items };
+    ghost invariant = { λ s. IsStoreInside s.rows.indexed s.pool s.rows.clauses s.rows.active s.rows.weakened s.noted.items };
 }
 
 impl Store {
@@ -71,11 +74,8 @@ impl Store {
     {
         Store {
             pool: Pool::new(alloc),
-            clauses: table::Table::new(alloc),
-            active: index::Pairs::new(alloc),
-            weakened: index::Pairs::new(alloc),
+            rows: Rows::new(alloc),
             noted: Vec::new(alloc),
-            indexed: true,
             alloc,
         }
     }
@@ -87,11 +87,8 @@ impl Store {
     {
         Store {
             pool: Pool::new(alloc),
-            clauses: table::Table::new(alloc),
-            active: index::Pairs::new(alloc),
-            weakened: index::Pairs::new(alloc),
+            rows: Rows::without_index(alloc),
             noted: Vec::new(alloc),
-            indexed: false,
             alloc,
         }
     }
@@ -106,10 +103,10 @@ impl Store {
         ensures taken { IfErr result (λ e. IsTrue (is_held self.old id) → e ≡ fault.IdTaken) }
         ensures memory { IfErr result (λ e. is_held self.old id ≡ false → e ≡ fault.Memory) }
     {
-        if self.clauses.contains_key(id) {
+        if self.rows.clauses.contains_key(id) {
             return Err(StoreFault::IdTaken);
         }
-        let Ok(pooled) = once::put(self.alloc, &mut self.pool, self.indexed, lits) else {
+        let Ok(pooled) = once::put(self.alloc, &mut self.pool, self.rows.indexed, lits) else {
             return Err(StoreFault::Memory);
         };
         let once::Pooled { slot, key } = pooled;
@@ -118,17 +115,7 @@ impl Store {
             return Err(StoreFault::Memory);
         }
         let limit = table::dense_limit(self.noted.len());
-        if rows::enter(
-            &mut self.active,
-            &mut self.clauses,
-            self.indexed,
-            id,
-            key,
-            slot,
-            limit,
-        )
-        .is_err()
-        {
+        if self.rows.enter(id, key, slot, limit).is_err() {
             self.pool.free(slot);
             return Err(StoreFault::Memory);
         }
@@ -143,11 +130,11 @@ impl Store {
         ensures err { IfErr result (λ e. (e ≡ fault.NotActive) × (self.new ≡ self.old)) }
         ensures inactive { IfErr result (λ _. is_active self.old id ≡ false) }
     {
-        let Some(slot) = rows::active_slot(&self.clauses, id) else {
+        let Some(slot) = self.rows.active_slot(id) else {
             return Err(StoreFault::NotActive);
         };
-        let key = rows::key_at(&self.noted, self.indexed, slot);
-        rows::leave(&mut self.active, &mut self.clauses, self.indexed, id, key);
+        let key = rows::key_at(&self.noted, self.rows.indexed, slot);
+        self.rows.leave(id, key);
         self.pool.free(slot);
         Ok(())
     }
@@ -161,21 +148,11 @@ impl Store {
         ensures inactive { IfErr result (λ e. is_active self.old id ≡ false → e ≡ fault.NotActive) }
         ensures memory { IfErr result (λ e. IsTrue (is_active self.old id) → e ≡ fault.Memory) }
     {
-        let Some(slot) = rows::active_slot(&self.clauses, id) else {
+        let Some(slot) = self.rows.active_slot(id) else {
             return Err(StoreFault::NotActive);
         };
-        let key = rows::key_at(&self.noted, self.indexed, slot);
-        if rows::switch(
-            &mut self.active,
-            &mut self.weakened,
-            &mut self.clauses,
-            self.indexed,
-            id,
-            key,
-            false,
-        )
-        .is_err()
-        {
+        let key = rows::key_at(&self.noted, self.rows.indexed, slot);
+        if self.rows.set_weakened(id, key).is_err() {
             return Err(StoreFault::Memory);
         }
         Ok(())
@@ -190,21 +167,11 @@ impl Store {
         ensures held { IfErr result (λ e. is_weakened self.old id ≡ false → e ≡ fault.NotWeakened) }
         ensures memory { IfErr result (λ e. IsTrue (is_weakened self.old id) → e ≡ fault.Memory) }
     {
-        let Some(slot) = rows::weakened_slot(&self.clauses, id) else {
+        let Some(slot) = self.rows.weakened_slot(id) else {
             return Err(StoreFault::NotWeakened);
         };
-        let key = rows::key_at(&self.noted, self.indexed, slot);
-        if rows::switch(
-            &mut self.weakened,
-            &mut self.active,
-            &mut self.clauses,
-            self.indexed,
-            id,
-            key,
-            true,
-        )
-        .is_err()
-        {
+        let key = rows::key_at(&self.noted, self.rows.indexed, slot);
+        if self.rows.set_active(id, key).is_err() {
             return Err(StoreFault::Memory);
         }
         self.pool.set_link(slot, Which::One, None);
@@ -218,10 +185,10 @@ impl Store {
         ensures least { IfSome result (λ id. (x : ℕ) → IsActiveWith self.now set.now x → id ≤ x) }
         ensures none { IfNone result ((x : ℕ) → IsActiveWith self.now set.now x → ⊥) }
     {
-        if !self.indexed {
-            return rows::least_noted(&self.noted, &self.clauses, &self.pool, true, set);
+        if !self.rows.indexed {
+            return rows::least_noted(&self.noted, &self.rows.clauses, &self.pool, true, set);
         }
-        self.active.least(&self.clauses, &self.pool, set)
+        self.rows.active.least(&self.rows.clauses, &self.pool, set)
     }
 
     /// The least id of a weakened clause with this literal set; None exactly where there is none.
@@ -230,10 +197,12 @@ impl Store {
         ensures least { IfSome result (λ id. (x : ℕ) → IsWeakenedWith self.now set.now x → id ≤ x) }
         ensures none { IfNone result ((x : ℕ) → IsWeakenedWith self.now set.now x → ⊥) }
     {
-        if !self.indexed {
-            return rows::least_noted(&self.noted, &self.clauses, &self.pool, false, set);
+        if !self.rows.indexed {
+            return rows::least_noted(&self.noted, &self.rows.clauses, &self.pool, false, set);
         }
-        self.weakened.least(&self.clauses, &self.pool, set)
+        self.rows
+            .weakened
+            .least(&self.rows.clauses, &self.pool, set)
     }
 
     /// The slot of an active clause; None exactly where the id isn't active.
@@ -242,7 +211,7 @@ impl Store {
         ensures slot { result ≡ slot_at self.now id }
         ensures sound { IsStore self.now }
     {
-        rows::active_slot(&self.clauses, id)
+        self.rows.active_slot(id)
     }
 
     /// The id of the active clause at this slot.

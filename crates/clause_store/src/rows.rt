@@ -1,5 +1,5 @@
-// The rows of the clauses and the two indices together. Each helper changes the fields that it is handed and says what that
-// does to the rows, so the store's invariant may be broken between two of them.
+// The rows of the clauses and the two indices together. Each call says what becomes of the rows and of the pairs, so the
+// store's invariant, which ties both to the pool, may be broken between two of them.
 
 ghost use Rattle.std.specs.Prelude.{◌≡◌, ◌≢◌, ℕ, ◌+◌, ◌<◌, ◌≤◌, Bool, true, false, not, nat_eq, List, length, OnOk, OnErr, IfSome, IfNone, IsTrue, is_some, MatchOption, Some, None, IfOk, if◌then◌else◌, option_map, option_and_then, ◌&&◌, ◌||◌, ◌↔◌};
 ghost use Rattle.clause_store.specs.Index.{has_pair};
@@ -10,38 +10,32 @@ use crate::index::Pairs;
 use crate::table::{Kept, Table};
 use lit_pool::{Pool, Slot};
 use lits::LitSet;
-use std::alloc::AllocError;
+use std::alloc::{AllocError, Global};
 
-/// The slot of an active clause.
-#[inline(always)]
-pub(crate) fn active_slot(clauses: &Table, id: u64) -> Option<Slot>
-    ensures { result ≡ row_slot true (row clauses.now id) }
-{
-    match clauses.get(id) {
-        Some(kept) => if kept.active { Some(kept.slot) } else { None },
-        None => None,
-    }
-}
-
-/// The slot of a weakened clause.
-pub(crate) fn weakened_slot(clauses: &Table, id: u64) -> Option<Slot>
-    ensures { result ≡ row_slot false (row clauses.now id) }
-{
-    match clauses.get(id) {
-        Some(kept) => if kept.active { None } else { Some(kept.slot) },
-        None => None,
-    }
+/// The rows of the clauses, and the two indices of their sets where they are kept.
+#[derive(Drop)]
+pub(crate) struct Rows {
+    pub(crate) clauses: Table,
+    pub(crate) active: Pairs,
+    pub(crate) weakened: Pairs,
+    // whether the two indices are kept
+    pub(crate) indexed: bool,
 }
 
 /// What is noted of a slot: the id of its clause, and in a store with an index the key of the clause's literal set.
 #[derive(Clone, Copy)]
-pub(crate) struct Noted {
+pub(crate) struct SlotInfo {
     pub(crate) id: u64,
     pub(crate) key: u64,
 }
 
 /// Notes an id and a key of a slot.
-pub(crate) fn note(noted: &mut Vec<Noted>, slot: Slot, id: u64, key: u64) -> Result<(), AllocError>
+pub(crate) fn note(
+    noted: &mut Vec<SlotInfo>,
+    slot: Slot,
+    id: u64,
+    key: u64,
+) -> Result<(), AllocError>
     ensures ok { OnOk result ((slot < length noted.new.items) × (noted_at noted.new.items slot ≡ record { id = id; key = key })) }
     ensures others { SameListed noted.old.items noted.new.items slot }
 {
@@ -50,14 +44,14 @@ pub(crate) fn note(noted: &mut Vec<Noted>, slot: Slot, id: u64, key: u64) -> Res
         return Err(AllocError);
     };
     if noted.len() < end {
-        noted.resize(end, Noted { id: 0, key: 0 })?;
+        noted.resize(end, SlotInfo { id: 0, key: 0 })?;
     }
-    noted[at] = Noted { id, key };
+    noted[at] = SlotInfo { id, key };
     Ok(())
 }
 
 /// The key that is noted of a slot, in a store with an index.
-pub(crate) fn key_at(noted: &Vec<Noted>, indexed: bool, slot: Slot) -> u64
+pub(crate) fn key_at(noted: &Vec<SlotInfo>, indexed: bool, slot: Slot) -> u64
     requires { slot < length noted.now.items }
     ensures { IsTrue indexed → (noted_at noted.now.items slot).key ≡ result }
 {
@@ -88,7 +82,7 @@ fn has_set(clauses: &Table, pool: &Pool, id: u64, active: bool, set: &LitSet) ->
 
 /// The least id that is noted whose clause is in this state and has this set.
 pub(crate) fn least_noted(
-    noted: &Vec<Noted>,
+    noted: &Vec<SlotInfo>,
     clauses: &Table,
     pool: &Pool,
     active: bool,
@@ -111,67 +105,131 @@ pub(crate) fn least_noted(
     least
 }
 
-/// Enters an active row at a free id, and its pair where an index is kept.
-pub(crate) fn enter(
-    active: &mut Pairs,
-    clauses: &mut Table,
-    indexed: bool,
-    id: u64,
-    key: u64,
-    slot: Slot,
-    limit: u64,
-) -> Result<(), AllocError>
-    requires { IsTrue indexed → has_pair active.old key id ≡ false }
-    ensures ok { OnOk result ((q : ℕ) → row clauses.new q ≡ (if nat_eq id q then Some (record { slot = slot; active = true }) else row clauses.old q)) }
-    ensures put { OnOk result (IsTrue indexed → (k i : ℕ) → has_pair active.new k i ≡ ((nat_eq key k && nat_eq id i) || has_pair active.old k i)) }
-    ensures err { OnErr result ((q : ℕ) → row clauses.new q ≡ row clauses.old q) }
-    ensures unput { OnErr result ((k i : ℕ) → has_pair active.new k i ≡ has_pair active.old k i) }
-{
-    if indexed {
-        active.put(key, id)?;
-    }
-    let kept = Kept { slot, active: true };
-    if clauses.insert(id, &kept, limit).is_err() {
-        if indexed {
-            active.cut(key, id);
+impl Rows {
+    /// No row. An index is kept.
+    pub(crate) fn new(alloc: Global) -> Rows
+        ensures rows { (q : ℕ) → row result.clauses q ≡ None }
+        ensures active { (k i : ℕ) → has_pair result.active k i ≡ false }
+        ensures weakened { (k i : ℕ) → has_pair result.weakened k i ≡ false }
+    {
+        Rows {
+            clauses: Table::new(alloc),
+            active: Pairs::new(alloc),
+            weakened: Pairs::new(alloc),
+            indexed: true,
         }
-        return Err(AllocError);
     }
-    Ok(())
-}
 
-/// Takes a row out, and its pair where an index is kept.
-pub(crate) fn leave(active: &mut Pairs, clauses: &mut Table, indexed: bool, id: u64, key: u64)
-    ensures rows { (q : ℕ) → row clauses.new q ≡ (if nat_eq id q then None else row clauses.old q) }
-    ensures pairs { IsTrue indexed → (k i : ℕ) → has_pair active.new k i ≡ (not (nat_eq key k && nat_eq id i) && has_pair active.old k i) }
-{
-    if indexed {
-        active.cut(key, id);
+    /// No row. No index is kept.
+    pub(crate) fn without_index(alloc: Global) -> Rows
+        ensures rows { (q : ℕ) → row result.clauses q ≡ None }
+        ensures unindexed { result.indexed ≡ false }
+    {
+        Rows {
+            clauses: Table::new(alloc),
+            active: Pairs::new(alloc),
+            weakened: Pairs::new(alloc),
+            indexed: false,
+        }
     }
-    clauses.remove(id);
-}
 
-/// Sets whether a row is active, and moves its pair from one index to the other where they are kept.
-pub(crate) fn switch(
-    from: &mut Pairs,
-    to: &mut Pairs,
-    clauses: &mut Table,
-    indexed: bool,
-    id: u64,
-    key: u64,
-    active: bool,
-) -> Result<(), AllocError>
-    ensures rows { OnOk result ((q : ℕ) → row clauses.new q ≡ (if nat_eq id q then option_map (with_state active) (row clauses.old q) else row clauses.old q)) }
-    ensures cut { OnOk result (IsTrue indexed → (k i : ℕ) → has_pair from.new k i ≡ (not (nat_eq key k && nat_eq id i) && has_pair from.old k i)) }
-    ensures put { OnOk result (IsTrue indexed → (k i : ℕ) → has_pair to.new k i ≡ ((nat_eq key k && nat_eq id i) || has_pair to.old k i)) }
-    ensures same_rows { OnErr result ((q : ℕ) → row clauses.new q ≡ row clauses.old q) }
-    ensures same_from { OnErr result ((k i : ℕ) → has_pair from.new k i ≡ has_pair from.old k i) }
-    ensures same_to { OnErr result ((k i : ℕ) → has_pair to.new k i ≡ has_pair to.old k i) }
-{
-    if indexed {
-        to.put(key, id)?;
-        from.cut(key, id);
+    /// The slot of an active clause.
+    #[inline(always)]
+    pub(crate) fn active_slot(&self, id: u64) -> Option<Slot>
+        ensures { result ≡ row_slot true (row self.now.clauses id) }
+    {
+        match self.clauses.get(id) {
+            Some(kept) => if kept.active { Some(kept.slot) } else { None },
+            None => None,
+        }
     }
-    clauses.set_active(id, active);
-    Ok(())
+
+    /// The slot of a weakened clause.
+    pub(crate) fn weakened_slot(&self, id: u64) -> Option<Slot>
+        ensures { result ≡ row_slot false (row self.now.clauses id) }
+    {
+        match self.clauses.get(id) {
+            Some(kept) => if kept.active { None } else { Some(kept.slot) },
+            None => None,
+        }
+    }
+
+    /// Enters an active row at a free id, and its pair where an index is kept. The table of rows grows to have a place for an
+    /// id below `limit`.
+    pub(crate) fn enter(
+        &mut self,
+        id: u64,
+        key: u64,
+        slot: Slot,
+        limit: u64,
+    ) -> Result<(), AllocError>
+        requires { IsTrue self.old.indexed → has_pair self.old.active key id ≡ false }
+        ensures ok { OnOk result ((q : ℕ) → row self.new.clauses q ≡ (if nat_eq id q then Some (record { slot = slot; active = true }) else row self.old.clauses q)) }
+        ensures put { OnOk result (IsTrue self.old.indexed → (k i : ℕ) → has_pair self.new.active k i ≡ ((nat_eq key k && nat_eq id i) || has_pair self.old.active k i)) }
+        ensures err { OnErr result ((q : ℕ) → row self.new.clauses q ≡ row self.old.clauses q) }
+        ensures unput { OnErr result ((k i : ℕ) → has_pair self.new.active k i ≡ has_pair self.old.active k i) }
+        ensures weakened { self.new.weakened ≡ self.old.weakened }
+        ensures indexed { self.new.indexed ≡ self.old.indexed }
+    {
+        if self.indexed {
+            self.active.put(key, id)?;
+        }
+        let kept = Kept { slot, active: true };
+        if self.clauses.insert(id, &kept, limit).is_err() {
+            if self.indexed {
+                self.active.cut(key, id);
+            }
+            return Err(AllocError);
+        }
+        Ok(())
+    }
+
+    /// Takes an active row out, and its pair where an index is kept.
+    pub(crate) fn leave(&mut self, id: u64, key: u64)
+        ensures rows { (q : ℕ) → row self.new.clauses q ≡ (if nat_eq id q then None else row self.old.clauses q) }
+        ensures pairs { IsTrue self.old.indexed → (k i : ℕ) → has_pair self.new.active k i ≡ (not (nat_eq key k && nat_eq id i) && has_pair self.old.active k i) }
+        ensures weakened { self.new.weakened ≡ self.old.weakened }
+        ensures indexed { self.new.indexed ≡ self.old.indexed }
+    {
+        if self.indexed {
+            self.active.cut(key, id);
+        }
+        self.clauses.remove(id);
+    }
+
+    /// Makes an active row a weakened one, and moves its pair from the one index to the other where they are kept.
+    pub(crate) fn set_weakened(&mut self, id: u64, key: u64) -> Result<(), AllocError>
+        ensures rows { OnOk result ((q : ℕ) → row self.new.clauses q ≡ (if nat_eq id q then option_map (with_state false) (row self.old.clauses q) else row self.old.clauses q)) }
+        ensures cut { OnOk result (IsTrue self.old.indexed → (k i : ℕ) → has_pair self.new.active k i ≡ (not (nat_eq key k && nat_eq id i) && has_pair self.old.active k i)) }
+        ensures put { OnOk result (IsTrue self.old.indexed → (k i : ℕ) → has_pair self.new.weakened k i ≡ ((nat_eq key k && nat_eq id i) || has_pair self.old.weakened k i)) }
+        ensures same_rows { OnErr result ((q : ℕ) → row self.new.clauses q ≡ row self.old.clauses q) }
+        ensures same_from { OnErr result ((k i : ℕ) → has_pair self.new.active k i ≡ has_pair self.old.active k i) }
+        ensures same_to { OnErr result ((k i : ℕ) → has_pair self.new.weakened k i ≡ has_pair self.old.weakened k i) }
+        ensures indexed { self.new.indexed ≡ self.old.indexed }
+    {
+        if self.indexed {
+            self.weakened.put(key, id)?;
+            self.active.cut(key, id);
+        }
+        self.clauses.set_active(id, false);
+        Ok(())
+    }
+
+    /// Makes a weakened row an active one, and moves its pair from the one index to the other where they are kept.
+    pub(crate) fn set_active(&mut self, id: u64, key: u64) -> Result<(), AllocError>
+        ensures rows { OnOk result ((q : ℕ) → row self.new.clauses q ≡ (if nat_eq id q then option_map (with_state true) (row self.old.clauses q) else row self.old.clauses q)) }
+        ensures cut { OnOk result (IsTrue self.old.indexed → (k i : ℕ) → has_pair self.new.weakened k i ≡ (not (nat_eq key k && nat_eq id i) && has_pair self.old.weakened k i)) }
+        ensures put { OnOk result (IsTrue self.old.indexed → (k i : ℕ) → has_pair self.new.active k i ≡ ((nat_eq key k && nat_eq id i) || has_pair self.old.active k i)) }
+        ensures same_rows { OnErr result ((q : ℕ) → row self.new.clauses q ≡ row self.old.clauses q) }
+        ensures same_from { OnErr result ((k i : ℕ) → has_pair self.new.weakened k i ≡ has_pair self.old.weakened k i) }
+        ensures same_to { OnErr result ((k i : ℕ) → has_pair self.new.active k i ≡ has_pair self.old.active k i) }
+        ensures indexed { self.new.indexed ≡ self.old.indexed }
+    {
+        if self.indexed {
+            self.active.put(key, id)?;
+            self.weakened.cut(key, id);
+        }
+        self.clauses.set_active(id, true);
+        Ok(())
+    }
 }

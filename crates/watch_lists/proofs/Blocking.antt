@@ -7,7 +7,7 @@ use Rattle.lits.specs.Clause.{has}
 use Rattle.clause_store.specs.Clauses.{Store, slot_at, lits_at}
 use Rattle.watch_lists.specs.Watch.{WatchView, no_watch, with_blocker}
 use Rattle.watch_lists.specs.Watched.{Watched, list_at, entry_at, watch_at, blocked}
-use Rattle.watch_lists.specs.Lists.{RowView, no_row, watches_at, count_at, row_at, with_watches, id_at, lits_of, place_in, IsHere, nobody, AreListed, AreBlockers, HasRoom, AreKept, IsInside, seen}
+use Rattle.watch_lists.specs.Lists.{RowView, no_row, watches_at, count_at, row_at, with_watches, id_at, lits_of, place_in, IsHere, nobody, AreListed, AreBlockers, HasRoom, AreKept, AreWatchesInside, seen}
 use Rattle.watch_lists.proofs.Members.{unlike}
 use Rattle.watch_lists.proofs.Calling.{lists_seen, lists_set}
 
@@ -104,7 +104,7 @@ module _ (m : Store) (rows new : List RowView) (l i b : ℕ) (c : Blocks m rows 
   long : length new ≡ length rows
   long = ap length c.is ∙ length-set rows l (with_watches (row_at rows l) (reblocked (watches_at rows l) i b))
 
-  pub inside_blocked : (places : List ℕ) (vars : ℕ) → IsInside m rows places vars → IsInside m new places vars
+  pub inside_blocked : (places : List ℕ) (vars : ℕ) → AreWatchesInside m rows places vars → AreWatchesInside m new places vars
   inside_blocked places vars n = record {
     kept = record {
       stored = n.kept.stored;

@@ -4,13 +4,13 @@ use Rattle.std.specs.Prelude.{slice_set}
 use Rattle.clause_store.specs.Clauses.{Store}
 use Rattle.watch_lists.specs.Watch.{WatchView}
 use Rattle.watch_lists.specs.Watched.{Watched, IsWatched, list_at}
-use Rattle.watch_lists.specs.Lists.{RowView, no_row, row_at, watches_at, with_watches, IsInside, seen}
+use Rattle.watch_lists.specs.Lists.{RowView, no_row, row_at, watches_at, with_watches, AreWatchesInside, seen}
 use Rattle.watch_lists.proofs.Sounding.{kept_sound}
 
-pub sound_now : (m : Store) (rows : List RowView) (places : List ℕ) (vars : ℕ) (w : Watched) → IsInside m rows places vars → seen m rows ≡ w → IsWatched w
+pub sound_now : (m : Store) (rows : List RowView) (places : List ℕ) (vars : ℕ) (w : Watched) → AreWatchesInside m rows places vars → seen m rows ≡ w → IsWatched w
 sound_now m rows places vars w i v = subst IsWatched v (kept_sound m rows places i.kept)
 
-pub sound_new : (m : Store) (rows : List RowView) (places : List ℕ) (vars : ℕ) → IsInside m rows places vars → IsWatched (seen m rows)
+pub sound_new : (m : Store) (rows : List RowView) (places : List ℕ) (vars : ℕ) → AreWatchesInside m rows places vars → IsWatched (seen m rows)
 sound_new m rows places vars i = kept_sound m rows places i.kept
 
 pub lists_seen : (rows : List RowView) (l : ℕ) → list_at (map (λ r. r.watches) rows) l ≡ watches_at rows l

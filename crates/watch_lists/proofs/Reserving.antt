@@ -9,7 +9,7 @@ use Rattle.std.specs.FinMap.{get, empty, get-empty}
 use Rattle.lits.specs.Clause.{has}
 use Rattle.clause_store.specs.Clauses.{ClauseEntry, Store, IsStore, slot_at, literals_at}
 use Rattle.watch_lists.specs.Watched.{Watched, reserved}
-use Rattle.watch_lists.specs.Lists.{RowView, no_row, watches_at, count_at, row_at, nobody, AreKept, HasRoom, IsInside, seen}
+use Rattle.watch_lists.specs.Lists.{RowView, no_row, watches_at, count_at, row_at, nobody, AreKept, HasRoom, AreWatchesInside, seen}
 use Rattle.watch_lists.proofs.Calling.{lists_more, wide_seen}
 use Rattle.watch_lists.proofs.Keeping.{kept_rows}
 
@@ -47,7 +47,7 @@ kept_empty = record {
   rooms = λ l. record { ids = []; each = λ q h. absurd (empty-literals q l h); few = omega arith };
 }
 
-pub inside-empty : (m : Store) (rows : List RowView) (places : List ℕ) → m ≡ empty → rows ≡ [] → places ≡ [] → IsInside m rows places 0
+pub inside-empty : (m : Store) (rows : List RowView) (places : List ℕ) → m ≡ empty → rows ≡ [] → places ≡ [] → AreWatchesInside m rows places 0
 inside-empty m rows places e f g = record {
   kept = subst (λ z. AreKept nobody z rows places) (sym e) (subst (λ z. AreKept nobody empty z places) (sym f) (subst (λ z. AreKept nobody empty [] z) (sym g) kept_empty));
   vars_is = ap length f;
@@ -69,7 +69,7 @@ row-padded (r ∷ rs) n (suc l) = row-padded rs n l
 longer : (rows : List RowView) (n : ℕ) → length (rows ++ replicate n no_row) ≡ length rows + n
 longer rows n = length-append rows (replicate n no_row) ∙ ap (λ z. length rows + z) (length-replicate n no_row)
 
-pub inside-reserved : (m : Store) (rows new : List RowView) (places : List ℕ) (vars more : ℕ) → IsInside m rows places vars → vars < more → new ≡ rows ++ replicate (2 * more - length rows) no_row → IsInside m new places more
+pub inside-reserved : (m : Store) (rows new : List RowView) (places : List ℕ) (vars more : ℕ) → AreWatchesInside m rows places vars → vars < more → new ≡ rows ++ replicate (2 * more - length rows) no_row → AreWatchesInside m new places more
 inside-reserved m rows new places vars more i lt e =
     let ws : (l : ℕ) → watches_at new l ≡ watches_at rows l = λ l. ap (λ r. r.watches) (ap (λ z. row_at z l) e ∙ row-padded rows (2 * more - length rows) l) in
     let cs : (l : ℕ) → count_at new l ≡ count_at rows l = λ l. ap (λ r. r.count) (ap (λ z. row_at z l) e ∙ row-padded rows (2 * more - length rows) l) in

@@ -140,7 +140,7 @@ pub record AreKept (away : ℕ → Bool) (m : Store) (rows : List RowView) (plac
   pub rooms : (l : ℕ) → HasRoom m l (count_at rows l)
 
 -- what the fields of watched clauses fulfil
-pub record IsInside (m : Store) (rows : List RowView) (places : List ℕ) (vars : ℕ) : Type 0 where
+pub record AreWatchesInside (m : Store) (rows : List RowView) (places : List ℕ) (vars : ℕ) : Type 0 where
   pub kept : AreKept nobody m rows places
   pub vars_is : length rows ≡ 2 * vars
 

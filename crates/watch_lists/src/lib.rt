@@ -1,9 +1,17 @@
 //! Watch lists of a store's clauses. Unit propagation visits, for each literal that becomes false, the clauses that watch
-//! it (Moskewicz and others, 2001). Here a clause of two or more literals watches the first two of its list, and the clauses
-//! that watch a literal stand side by side in a list of its own, each with a blocker. So a walk over a list reads one block of
-//! memory, and looks only at clauses whose blocker isn't true. A clause is taken out of the middle of a list without a
-//! search, since a table says where its entries stand, and an entry that moves takes no memory, since each list has room for
-//! all clauses with its literal.
+//! it: two literals of each clause, as long as neither is false (M. Moskewicz and others, 2001). With a count of the false
+//! literals of each clause in their place, each literal would have to visit all its clauses, and visit them again when it is
+//! taken back.
+//!
+//! Here a clause of two or more literals watches the first two of its list, and the clauses that watch a literal stand side by
+//! side in a list of its own, each with a blocker, some literal of the clause (N. Sörensson and N. Eén, 2008). So a walk over a
+//! list reads one block of memory, and looks only at clauses whose blocker isn't true. Without the blockers each entry would
+//! be a visit of a clause that lies elsewhere, most of which are for nothing.
+//!
+//! A session deletes clauses by the thousand. A clause is taken out of the middle of a list without a search, since a table
+//! says where its entries stand. An entry that moves takes no memory, since each list has room for all clauses with its
+//! literal; so propagation never wants memory on its way. A deletion takes none either, so a list gives places back only
+//! where the next clause with its literal is added.
 #![tactic(auto)]
 
 ghost use Rattle.std.specs.Prelude.{◌≡◌, ℕ, ◌*◌, ◌-◌, ◌<◌, ◌≤◌, ◌↔◌, [], length, take, IsOk, OnOk, OnErr, IfOk, IfErr, IfSome, IfNone, IsTrue, true, false, Some, None};
@@ -47,11 +55,11 @@ impl Model for Watches {
 
     ghost coded = { watched_code };
 
-    ghost use Rattle.watch_lists.specs.Lists.{seen, IsInside};
+    ghost use Rattle.watch_lists.specs.Lists.{seen, AreWatchesInside};
 
     ghost view = { λ w. seen w.store w.rows.items };
 
-    ghost invariant = { λ w. IsInside w.store w.rows.items w.places.items w.vars };
+    ghost invariant = { λ w. AreWatchesInside w.store w.rows.items w.places.items w.vars };
 }
 
 impl Watches {

@@ -45,14 +45,21 @@ impl Row {
         }
     }
 
+    /// Recalls that the number is one of 32 bits. It does nothing.
+    #[inline(always)]
+    fn recall_limit(&self)
+        ensures { self.now.count < 2 ^ 32 }
+    {
+        let _count = self.count;
+    }
+
     /// The list.
     #[inline(always)]
     pub(crate) fn list(&self) -> &[Watch]
         ensures list { result.now ≡ self.now.watches }
         ensures small { self.now.count < 2 ^ 32 }
     {
-        // that the count is below 2^32 is known where it is read
-        let _count = self.count;
+        self.recall_limit();
         &self.watches
     }
 
@@ -102,8 +109,7 @@ impl Row {
         ensures small { self.old.count < 2 ^ 32 }
         ensures last { result ≡ (if nat_le (length self.old.watches) (i + 1) then None else Some (entry_at self.old.watches (length self.old.watches - 1))) }
     {
-        // that the count is below 2^32 is known where it is read
-        let _count = self.count;
+        self.recall_limit();
         let last = self.watches.pop()?;
         if i < self.watches.len() {
             self.watches[i] = last;

@@ -137,6 +137,17 @@ fn clauses_enter_and_leave_their_lists(rt: HostRuntime) -> Result<(), Fail> {
     assert!(rt; watches_at(&watches, 3, a));
     assert_eq!(rt; count(&watches, a), 2);
     assert_eq!(rt; count(&watches, b), 1);
+    // a list of more than 4,096, which is given up and grows again
+    for round in 0..2u64 {
+        for n in 0..4097 {
+            assert!(rt; add(&mut watches, 10 + round * 5000 + n, &[a, c]));
+        }
+        assert_eq!(rt; count(&watches, a), 4099);
+        for n in 0..4097 {
+            assert!(rt; watches.delete(10 + round * 5000 + n) == Ok(()));
+        }
+        assert_eq!(rt; count(&watches, a), 2);
+    }
     Ok(())
 }
 

@@ -7,7 +7,7 @@ use Rattle.lits.proofs.Ascending.{has-set_of}
 use Rattle.clause_store.specs.Clauses.{firsts, new_clause, slot_at}
 use Rattle.clause_store.proofs.Stored.{on_ok}
 use Rattle.watch_lists.specs.Watched.{IsWatched}
-use Rattle.watch_lists.specs.Lists.{IsInside, seen}
+use Rattle.watch_lists.specs.Lists.{AreWatchesInside, seen}
 use Rattle.watch_lists.proofs.Sounding.{kept_sound}
 use Rattle.watch_lists.proofs.Placed.{id_at-slot}
 use Rattle.watch_lists.proofs.Putting.{Puts, ok_from, puts-added, slot-put, undone}
@@ -32,7 +32,7 @@ invariant_of-self-then-is_err c =
     let active : slot_at c.add.new.self c.args.id ≡ Some c.in-Ok.slot = slot-put c.self.inside.store c.add.new.self c.args.id c.in-Ok.slot (set_of c.args.lits.now) (firsts c.args.lits.now) c.in-Ok.ensures.ok in
     let is : c.delete.new.self ≡ remove c.add.new.self c.args.id = ok_from c.delete.result _ _ c.delete.ensures.ok c.delete.ensures.inactive (λ e h. both_ways _ h (ap is_some active)) in
     let back : c.delete.new.self ≡ c.self.inside.store = undone c.self.inside.store c.add.new.self c.delete.new.self c.args.id (new_clause c.args.lits.now c.in-Ok.slot) c.in-Ok.ensures.ok is c.in-Ok.ensures.free in
-    subst (λ z. IsInside z c.make_room.new.rows.items c.make_room.new.places.items c.self.inside.vars) (sym back) (record {
+    subst (λ z. AreWatchesInside z c.make_room.new.rows.items c.make_room.new.places.items c.self.inside.vars) (sym back) (record {
       kept = kept_raised c.self.inside.store c.self.inside.rows.items c.make_room.new.rows.items c.self.inside.places.items c.make_room.new.places.items c.self.invariant.kept c.make_room.ensures.raised c.make_room.ensures.longer c.make_room.ensures.same;
       vars_is = c.make_room.ensures.raised.long ∙ c.self.invariant.vars_is;
     })
