@@ -17,7 +17,7 @@
 ghost use Rattle.std.specs.Prelude.{◌≡◌, ℕ, ◌*◌, ◌-◌, ◌<◌, ◌≤◌, ◌↔◌, [], length, take, IsOk, OnOk, OnErr, IfOk, IfErr, IfSome, IfNone, IsTrue, true, false, Some, None};
 ghost use Rattle.std.specs.FinMap as finmap;
 ghost use Rattle.lits.specs.Clause.{has};
-ghost use Rattle.clause_store.specs.Clauses.{slot_at, lits_at, literals_at, kept_at, is_active, is_weakened, is_held, new_clause, weakened_clause, with_swap, IsSlot, IsFresh, IsRestored, IsActiveWith, IsWeakenedWith};
+ghost use Rattle.clause_store.specs.Clauses.{slot_at, lits_at, literals_at, kept_at, is_active, is_weakened, is_held, new_clause, weakened_entry, with_swap, IsSlot, IsFresh, IsRestored, IsActiveWith, IsWeakenedWith};
 ghost use Rattle.clause_store.specs.declared.StoreFault.TheVariants as fault;
 ghost use Rattle.watch_lists.specs.Watched.{IsWatched, AreReserved, list_at, watch_at, reserved, blocked};
 
@@ -156,7 +156,7 @@ impl Watches {
     /// Makes an active clause a weakened one, and takes its slot out of its lists. NotActive comes exactly where the id
     /// isn't active; all stays after each refusal.
     pub fn weaken(&mut self, id: u64) -> Result<(), StoreFault>
-        ensures ok { IfOk result (λ _. self.new.clauses ≡ finmap.insert self.old.clauses id (weakened_clause (literals_at self.old.clauses id) (kept_at self.old.clauses id))) }
+        ensures ok { IfOk result (λ _. self.new.clauses ≡ finmap.insert self.old.clauses id (weakened_entry (literals_at self.old.clauses id) (kept_at self.old.clauses id))) }
         ensures active { IfOk result (λ _. IsTrue (is_active self.old.clauses id)) }
         ensures err { IfErr result (λ _. self.new ≡ self.old) }
         ensures inactive { IfErr result (λ e. is_active self.old.clauses id ≡ false → e ≡ fault.NotActive) }
