@@ -14,10 +14,10 @@ use Rattle.lits.proofs.Ascending.{set_of-same}
 use Rattle.lit_pool.specs.Entry.{Entry, Entries, entry_at, link_of, relinked as entry_relinked, with_swap as pool_with_swap, with_link as pool_with_link}
 use Rattle.lit_pool.specs.declared.Which.{Which}
 use Rattle.lit_pool.specs.declared.Which.TheVariants as which
-use Rattle.clause_store.specs.declared.table.Kept.{Kept}
+use Rattle.clause_store.specs.declared.table.ClauseRow.{ClauseRow}
 use Rattle.clause_store.specs.declared.rows.SlotInfo.{SlotInfo}
 use Rattle.clause_store.specs.declared.table.Table.{Table}
-use Rattle.clause_store.specs.Clauses.{Place, Store, IsOnce, slot_at, lits_at, link_at, place_link, clause_at, weakened_clause, relinked, swapped, with_place, with_swap, with_link}
+use Rattle.clause_store.specs.Clauses.{Place, Store, IsOnce, slot_at, lits_at, link_at, place_link, clause_at, weakened_entry, relinked, swapped, with_place, with_swap, with_link}
 use Rattle.clause_store.specs.Index.{key_of}
 use Rattle.clause_store.specs.Rows.{place_of, held_of, store_of, row, row_slot, with_state, IsRow, AreRows}
 use Rattle.clause_store.proofs.Lists.{size-once, firsts-whole, once-firsts}
@@ -59,19 +59,19 @@ module _ {indexed : Bool} (p : Entries) (es : Table) (ids : List SlotInfo) (id s
     | inr n ↦ rw n refl
   ]
 
-  others : (q : ℕ) (r : Kept) → nat_eq id q ≡ false → row es q ≡ Some r → get (insert p s e) r.slot ≡ get p r.slot
+  others : (q : ℕ) (r : ClauseRow) → nat_eq id q ≡ false → row es q ≡ Some r → get (insert p s e) r.slot ≡ get p r.slot
   others q r n g = get_insert_other p s r.slot e (λ same. slots_differ p es ids q id r here.k h.all n g here.is (same ∙ sym here.slot))
 
   entry-here : get (insert p s e) here.k.slot ≡ Some e
   entry-here = ap (get (insert p s e)) here.slot ∙ get_insert_same p s e
 
   clause-here : clause_at (store_of p es) id ≡ held_of (get p s) here.k
-  clause-here = ap (λ o. unwrap_or o (weakened_clause [] 0)) (get-store_of p es id ∙ ap (option_map (λ k. held_of (get p k.slot) k)) here.is) ∙ ap (λ z. held_of (get p z) here.k) here.slot
+  clause-here = ap (λ o. unwrap_or o (weakened_entry [] 0)) (get-store_of p es id ∙ ap (option_map (λ k. held_of (get p k.slot) k)) here.is) ∙ ap (λ z. held_of (get p z) here.k) here.slot
 
   held-here : held_of (Some e) here.k ≡ with_place f (held_of (get p s) here.k)
   held-here = joined here.k here.slot here.on
     where
-      joined : (k : Kept) → k.slot ≡ s → k.active ≡ true → held_of (Some e) k ≡ with_place f (held_of (get p s) k)
+      joined : (k : ClauseRow) → k.slot ≡ s → k.active ≡ true → held_of (Some e) k ≡ with_place f (held_of (get p s) k)
       joined k same on = rw (on, same) (λ i. record { literals = h.same_set i; slot = s; place = Some (h.shape i) })
 
   pub store-changed : store_of (insert p s e) es ≡ insert (store_of p es) id (with_place f (clause_at (store_of p es) id))
@@ -89,7 +89,7 @@ link_at-row p es id s w e =
     let f = found true (row es id) s (sym (slot_at-row p es id) ∙ e) in
     ap (λ o. option_and_then (place_link w) (option_and_then (λ h. h.place) o)) (get-store_of p es id ∙ ap (option_map (λ k. held_of (get p k.slot) k)) f.is) ∙ joined f.k f.slot f.on w
   where
-    joined : (k : Kept) → k.slot ≡ s → k.active ≡ true → (w : Which) → option_and_then (place_link w) (held_of (get p k.slot) k).place ≡ link_of (entry_at p s) w
+    joined : (k : ClauseRow) → k.slot ≡ s → k.active ≡ true → (w : Which) → option_and_then (place_link w) (held_of (get p k.slot) k).place ≡ link_of (entry_at p s) w
     joined k same on which.One = rw (on, same) refl
     joined k same on which.Two = rw (on, same) refl
 
@@ -125,7 +125,7 @@ module _ {indexed : Bool} (p p' : Entries) (es : Table) (ids : List SlotInfo) (m
   store-relinked w to new = ap (λ z. store_of z es) new ∙ store-changed p es ids id s _ _ (link_changes p es ids id s w to h slot_inside) ∙ ap (λ z. with_link z id w to) v
 
 -- the slot of a row that is active now
-pub slot-switched : (p : Entries) (es es' : Table) (id s t : ℕ) (k : Kept) → row es id ≡ Some k → k.slot ≡ s
+pub slot-switched : (p : Entries) (es es' : Table) (id s t : ℕ) (k : ClauseRow) → row es id ≡ Some k → k.slot ≡ s
     → ((q : ℕ) → row es' q ≡ cond (nat_eq id q) (option_map (with_state true) (row es q)) (row es q)) → slot_at (store_of p es') id ≡ Some t → s ≡ t
 slot-switched p es es' id s t k here slot rows e =
     let r : row es' id ≡ Some (with_state true k) = rows id ∙ ap (λ b. cond b (option_map (with_state true) (row es id)) (row es id)) (eq-eqb id id refl) ∙ ap (option_map (with_state true)) here in

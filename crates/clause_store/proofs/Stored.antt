@@ -13,12 +13,12 @@ use Rattle.lits.proofs.Ascending.{ascends_set_of, set_of-unique}
 use Rattle.lit_pool.specs.Entry.{Entry, Entries, new_entry, entry_at, with_link}
 use Rattle.lit_pool.specs.declared.Which.TheVariants as which
 use Rattle.lit_pool.proofs.Slots.{get-insert_slot, get-remove_slot}
-use Rattle.clause_store.specs.declared.table.Kept.{Kept}
+use Rattle.clause_store.specs.declared.table.ClauseRow.{ClauseRow}
 use Rattle.clause_store.specs.declared.table.Cell.{Cell}
 use Rattle.clause_store.specs.declared.rows.SlotInfo.{SlotInfo}
 use Rattle.clause_store.specs.declared.table.Table.{Table}
 use Rattle.clause_store.specs.declared.index.Pairs.{Pairs}
-use Rattle.clause_store.specs.Clauses.{ClauseEntry, Place, Store, IsOnce, firsts, slot_at, kept_at, lits_at, literals_at, new_clause, active_clause, is_active, is_held, is_weakened, IsFresh, IsStore, IsRestored, IsActiveWith, IsWeakenedWith}
+use Rattle.clause_store.specs.Clauses.{ClauseEntry, Place, Store, IsOnce, firsts, slot_at, kept_at, lits_at, literals_at, new_clause, active_entry, is_active, is_held, is_weakened, IsFresh, IsStore, IsRestored, IsActiveWith, IsWeakenedWith}
 use Rattle.clause_store.specs.Index.{has_pair, key_of}
 use Rattle.clause_store.specs.Rows.{entry_of, place_of, held_of, store_of, row_if, listed, entries, dense_row, far_row, row, literals_in, IsRowWith, is_state, stands, row_slot, with_state, noted, kept_of, IsListed, SameListed, IsRow, ArePooled, AreRows, IsIndex, IsStoreInside}
 use Rattle.clause_store.proofs.Lists.{set_of-firsts, once-firsts}
@@ -35,25 +35,25 @@ tied : (q k : ℕ) → eq_by_cmp nat_cmp q k ≡ nat_eq q k
 tied q k = grind (arith, nat_tests)
 
 -- the row of the far part
-find-far : (q : ℕ) (es : List (ℕ × Kept)) → find nat_cmp q es ≡ far_row es q
+find-far : (q : ℕ) (es : List (ℕ × ClauseRow)) → find nat_cmp q es ≡ far_row es q
 find-far q [] = refl
 find-far q (e ∷ es) = ap (λ b. cond b (Some e.1) (find nat_cmp q es)) (tied q e.0) ∙ ap (λ o. cond (nat_eq q e.0) (Some e.1) o) (find-far q es)
 
-find-skip : (n q : ℕ) (o : Option Kept) (es : List (ℕ × Kept)) → q ≢ n → find nat_cmp q (row_if n o ++ es) ≡ find nat_cmp q es
+find-skip : (n q : ℕ) (o : Option ClauseRow) (es : List (ℕ × ClauseRow)) → q ≢ n → find nat_cmp q (row_if n o ++ es) ≡ find nat_cmp q es
 find-skip n q None es ne = refl
 find-skip n q (Some k) es ne = rw (untied q n ne) refl
 
 -- the dense part has no id before its first
-find-past : (n q : ℕ) (cs : List Cell) (es : List (ℕ × Kept)) → q < n → find nat_cmp q (listed n cs ++ es) ≡ find nat_cmp q es
+find-past : (n q : ℕ) (cs : List Cell) (es : List (ℕ × ClauseRow)) → q < n → find nat_cmp q (listed n cs ++ es) ≡ find nat_cmp q es
 find-past n q [] es lt = refl
 find-past n q (c ∷ cs) es lt = ap (find nat_cmp q) (append_assoc (row_if n (kept_of c)) (listed (suc n) cs) es) ∙ find-skip n q (kept_of c) (listed (suc n) cs ++ es) (omega arith) ∙ find-past (suc n) q cs es (omega arith)
 
 -- the row of the dense part where it has one, else what stands behind it
-find-dense : (n j q : ℕ) (cs : List Cell) (es : List (ℕ × Kept)) → q ≡ n + j → find nat_cmp q (listed n cs ++ es) ≡ option_or (dense_row cs j) (find nat_cmp q es)
+find-dense : (n j q : ℕ) (cs : List Cell) (es : List (ℕ × ClauseRow)) → q ≡ n + j → find nat_cmp q (listed n cs ++ es) ≡ option_or (dense_row cs j) (find nat_cmp q es)
 find-dense n j q [] es e = refl
 find-dense n zero q (c ∷ cs) es e = ap (find nat_cmp q) (append_assoc (row_if n (kept_of c)) (listed (suc n) cs) es) ∙ at (kept_of c) (find-past (suc n) q cs es (omega arith))
   where
-    at : (o : Option Kept) → find nat_cmp q (listed (suc n) cs ++ es) ≡ find nat_cmp q es → find nat_cmp q (row_if n o ++ (listed (suc n) cs ++ es)) ≡ option_or o (find nat_cmp q es)
+    at : (o : Option ClauseRow) → find nat_cmp q (listed (suc n) cs ++ es) ≡ find nat_cmp q es → find nat_cmp q (row_if n o ++ (listed (suc n) cs ++ es)) ≡ option_or o (find nat_cmp q es)
     at None h = h
     at (Some k) h = let same_id : q ≡ n = omega arith in rw (same_id, ties n) refl
 find-dense n (suc j) q (c ∷ cs) es e = ap (find nat_cmp q) (append_assoc (row_if n (kept_of c)) (listed (suc n) cs) es) ∙ find-skip n q (kept_of c) (listed (suc n) cs ++ es) (omega arith) ∙ find-dense (suc n) j q cs es (omega arith)
@@ -63,7 +63,7 @@ find-entries t q = find-dense 0 q q t.dense.items t.far.entries (omega arith) �
 
 -- ---- The map at an id
 
-find-map : (pool : Entries) (es : List (ℕ × Kept)) (q : ℕ) → find nat_cmp q (map (λ e. (e.0, held_of (get pool e.1.slot) e.1)) es) ≡ option_map (λ k. held_of (get pool k.slot) k) (find nat_cmp q es)
+find-map : (pool : Entries) (es : List (ℕ × ClauseRow)) (q : ℕ) → find nat_cmp q (map (λ e. (e.0, held_of (get pool e.1.slot) e.1)) es) ≡ option_map (λ k. held_of (get pool k.slot) k) (find nat_cmp q es)
 find-map pool [] q = refl
 find-map pool (e ∷ es) q = elim (cases_Bool (eq_by_cmp nat_cmp q e.0)) [
   | inl y ↦ rw y refl
@@ -96,15 +96,15 @@ get_cut m id q = get-remove nat_cmp_total m id q ∙ ap (λ b. cond b None (get 
     flip q id = grind (arith, nat_tests)
 
 -- one row put, where the entries of the others stay
-pub store_put : (p p' : Entries) (es es' : Table) (id : ℕ) (k : Kept) (h : ClauseEntry)
+pub store_put : (p p' : Entries) (es es' : Table) (id : ℕ) (k : ClauseRow) (h : ClauseEntry)
     → ((q : ℕ) → row es' q ≡ cond (nat_eq id q) (Some k) (row es q))
-    → ((q : ℕ) (r : Kept) → nat_eq id q ≡ false → row es q ≡ Some r → get p' r.slot ≡ get p r.slot)
+    → ((q : ℕ) (r : ClauseRow) → nat_eq id q ≡ false → row es q ≡ Some r → get p' r.slot ≡ get p r.slot)
     → held_of (get p' k.slot) k ≡ h
     → store_of p' es' ≡ insert (store_of p es) id h
 store_put p p' es es' id k h rows entries here = same _ _ (λ q.
     get-store_of p' es' q ∙ ap (λ o. option_map (λ k. held_of (get p' k.slot) k) o) (rows q) ∙ at q ∙ sym (get_put (store_of p es) id h q))
   where
-    others : (q : ℕ) (o : Option Kept) → row es q ≡ o → nat_eq id q ≡ false → option_map (λ k. held_of (get p' k.slot) k) o ≡ option_map (λ k. held_of (get p k.slot) k) o
+    others : (q : ℕ) (o : Option ClauseRow) → row es q ≡ o → nat_eq id q ≡ false → option_map (λ k. held_of (get p' k.slot) k) o ≡ option_map (λ k. held_of (get p k.slot) k) o
     others q None e n = refl
     others q (Some r) e n = ap (λ g. Some (held_of g r)) (entries q r n e)
 
@@ -117,12 +117,12 @@ store_put p p' es es' id k h rows entries here = same _ _ (λ q.
 -- one row taken out, where the entries of the others stay
 pub store_cut : (p p' : Entries) (es es' : Table) (id : ℕ)
     → ((q : ℕ) → row es' q ≡ cond (nat_eq id q) None (row es q))
-    → ((q : ℕ) (r : Kept) → nat_eq id q ≡ false → row es q ≡ Some r → get p' r.slot ≡ get p r.slot)
+    → ((q : ℕ) (r : ClauseRow) → nat_eq id q ≡ false → row es q ≡ Some r → get p' r.slot ≡ get p r.slot)
     → store_of p' es' ≡ remove (store_of p es) id
 store_cut p p' es es' id rows entries = same _ _ (λ q.
     get-store_of p' es' q ∙ ap (λ o. option_map (λ k. held_of (get p' k.slot) k) o) (rows q) ∙ at q ∙ sym (get_cut (store_of p es) id q))
   where
-    others : (q : ℕ) (o : Option Kept) → row es q ≡ o → nat_eq id q ≡ false → option_map (λ k. held_of (get p' k.slot) k) o ≡ option_map (λ k. held_of (get p k.slot) k) o
+    others : (q : ℕ) (o : Option ClauseRow) → row es q ≡ o → nat_eq id q ≡ false → option_map (λ k. held_of (get p' k.slot) k) o ≡ option_map (λ k. held_of (get p k.slot) k) o
     others q None e n = refl
     others q (Some r) e n = ap (λ g. Some (held_of g r)) (entries q r n e)
 
@@ -152,7 +152,7 @@ pub inside-framed : (i j : Bool) (p : Entries) (es : Table) (a w v : Pairs) (ids
 inside-framed i j p es a w v ids e f h = subst (λ b. IsStoreInside b p es a v ids) (sym e) (subst (λ x. IsStoreInside i p es a x ids) (sym f) h)
 
 -- the slots of two rows differ
-pub slots_differ : {indexed : Bool} (p : Entries) (es : Table) (ids : List SlotInfo) (q r : ℕ) (k j : Kept) → AreRows indexed p ids es → nat_eq r q ≡ false → row es q ≡ Some k → row es r ≡ Some j → k.slot ≢ j.slot
+pub slots_differ : {indexed : Bool} (p : Entries) (es : Table) (ids : List SlotInfo) (q r : ℕ) (k j : ClauseRow) → AreRows indexed p ids es → nat_eq r q ≡ false → row es q ≡ Some k → row es r ≡ Some j → k.slot ≢ j.slot
 slots_differ p es ids q r k j h n e f same_slot =
     let a : IsListed ids k.slot q = (h q k e).listed in
     let b : IsListed ids j.slot r = (h r j f).listed in
@@ -160,7 +160,7 @@ slots_differ p es ids q r k j h n e f same_slot =
     both_ways _ n (eq-eqb r q (sym c))
 
 -- a slot that isn't live is no row's
-pub slot_dead : {indexed : Bool} (p : Entries) (es : Table) (ids : List SlotInfo) (s q : ℕ) (k : Kept) → AreRows indexed p ids es → get p s ≡ None → row es q ≡ Some k → k.slot ≢ s
+pub slot_dead : {indexed : Bool} (p : Entries) (es : Table) (ids : List SlotInfo) (s q : ℕ) (k : ClauseRow) → AreRows indexed p ids es → get p s ≡ None → row es q ≡ Some k → k.slot ≢ s
 slot_dead p es ids s q k h dead e same_slot =
     let l : is_some (get p s) ≡ true = subst (λ z. is_some (get p z) ≡ true) same_slot (h q k e).live in
     both_ways _ (ap is_some dead) l
@@ -192,7 +192,7 @@ freed p s e dead = same_map nat_cmp_total nat_cmp-IsAntisymmetric _ _ (λ q. get
 
 -- an id noted at a slot that isn't live
 module _ {indexed : Bool} (p : Entries) (es : Table) (ids ids' : List SlotInfo) (s : ℕ) (h : AreRows indexed p ids es) (dead : get p s ≡ None) (note : SameListed ids ids' s) where
-  note_of : (q : ℕ) (k : Kept) → row es q ≡ Some k → (k.slot < length ids') × (noted ids' k.slot ≡ noted ids k.slot)
+  note_of : (q : ℕ) (k : ClauseRow) → row es q ≡ Some k → (k.slot < length ids') × (noted ids' k.slot ≡ noted ids k.slot)
   note_of q k e = note k.slot (slot_dead p es ids s q k h dead e) (h q k e).listed.0
 
   pub rows-noted : AreRows indexed p ids' es
@@ -201,7 +201,7 @@ module _ {indexed : Bool} (p : Entries) (es : Table) (ids ids' : List SlotInfo) 
   pub index-noted : (state : Bool) (x : Pairs) → IsIndex indexed ids state x es → IsIndex indexed ids' state x es
   index-noted state x g = λ t c q. g t c q ∙ stands-noted c q (row es q) refl
     where
-      stands-noted : (c q : ℕ) (o : Option Kept) → row es q ≡ o → stands ids state c o ≡ stands ids' state c o
+      stands-noted : (c q : ℕ) (o : Option ClauseRow) → row es q ≡ o → stands ids state c o ≡ stands ids' state c o
       stands-noted c q None e = refl
       stands-noted c q (Some k) e = ap (λ z. nat_eq z.key c && is_state state k.active) (sym (note_of q k e).1)
 
@@ -213,13 +213,13 @@ inside-noted p es a w ids ids' s h dead note = record {
 }
 
 -- rows with one put, where the entries of the others stay
-pub rows_put : {indexed : Bool} (p p' : Entries) (es es' : Table) (ids : List SlotInfo) (id : ℕ) (k : Kept)
+pub rows_put : {indexed : Bool} (p p' : Entries) (es es' : Table) (ids : List SlotInfo) (id : ℕ) (k : ClauseRow)
     → ((q : ℕ) → row es' q ≡ cond (nat_eq id q) (Some k) (row es q))
-    → ((q : ℕ) (r : Kept) → nat_eq id q ≡ false → row es q ≡ Some r → get p' r.slot ≡ get p r.slot)
+    → ((q : ℕ) (r : ClauseRow) → nat_eq id q ≡ false → row es q ≡ Some r → get p' r.slot ≡ get p r.slot)
     → IsRow indexed (get p' k.slot) ids id k → AreRows indexed p ids es → AreRows indexed p' ids es'
 rows_put {indexed} p p' es es' ids id k rows entries here h = λ q r e. by_case q r (cases_Bool (nat_eq id q)) e
   where
-    by_case : (q : ℕ) (r : Kept) → (nat_eq id q ≡ true) ⊎ (nat_eq id q ≡ false) → row es' q ≡ Some r → IsRow indexed (get p' r.slot) ids q r
+    by_case : (q : ℕ) (r : ClauseRow) → (nat_eq id q ≡ true) ⊎ (nat_eq id q ≡ false) → row es' q ≡ Some r → IsRow indexed (get p' r.slot) ids q r
     by_case q r (inl y) e =
         let g : Some k ≡ Some r = ap (λ b. cond b (Some k) (row es q)) (sym y) ∙ sym (rows q) ∙ e in
         subst (λ z. IsRow indexed (get p' z.slot) ids q z) (same_Some k r g) (subst (λ z. IsRow indexed (get p' k.slot) ids z k) (eqb-true id q y) here)
@@ -229,11 +229,11 @@ rows_put {indexed} p p' es es' ids id k rows entries here h = λ q r e. by_case 
 
 rows_cut : {indexed : Bool} (p p' : Entries) (es es' : Table) (ids : List SlotInfo) (id : ℕ)
     → ((q : ℕ) → row es' q ≡ cond (nat_eq id q) None (row es q))
-    → ((q : ℕ) (r : Kept) → nat_eq id q ≡ false → row es q ≡ Some r → get p' r.slot ≡ get p r.slot)
+    → ((q : ℕ) (r : ClauseRow) → nat_eq id q ≡ false → row es q ≡ Some r → get p' r.slot ≡ get p r.slot)
     → AreRows indexed p ids es → AreRows indexed p' ids es'
 rows_cut {indexed} p p' es es' ids id rows entries h = λ q r e. by_case q r (cases_Bool (nat_eq id q)) e
   where
-    by_case : (q : ℕ) (r : Kept) → (nat_eq id q ≡ true) ⊎ (nat_eq id q ≡ false) → row es' q ≡ Some r → IsRow indexed (get p' r.slot) ids q r
+    by_case : (q : ℕ) (r : ClauseRow) → (nat_eq id q ≡ true) ⊎ (nat_eq id q ≡ false) → row es' q ≡ Some r → IsRow indexed (get p' r.slot) ids q r
     by_case q r (inl y) e =
         let g : None ≡ Some r = ap (λ b. cond b None (row es q)) (sym y) ∙ sym (rows q) ∙ e in absurd (none-some r g)
     by_case q r (inr n) e =
@@ -243,7 +243,7 @@ rows_cut {indexed} p p' es es' ids id rows entries h = λ q r e. by_case q r (ca
 -- ---- The indices
 
 -- an index with a pair, and the row of its id as it stands
-index_put : {indexed : Bool} (ids : List SlotInfo) (state : Bool) (s s' : Pairs) (es es' : Table) (key id : ℕ) (k : Kept) → IsIndex indexed ids state s es
+index_put : {indexed : Bool} (ids : List SlotInfo) (state : Bool) (s s' : Pairs) (es es' : Table) (key id : ℕ) (k : ClauseRow) → IsIndex indexed ids state s es
     → (IsTrue indexed → (c i : ℕ) → has_pair s' c i ≡ ((nat_eq key c && nat_eq id i) || has_pair s c i))
     → ((q : ℕ) → row es' q ≡ cond (nat_eq id q) (Some k) (row es q))
     → (IsTrue indexed → (noted ids k.slot).key ≡ key) → is_state state k.active ≡ true → ((c : ℕ) → stands ids state c (row es id) ≡ false)
@@ -265,7 +265,7 @@ index_put ids state s s' es es' key id k h pairs rows keyed_if on off = λ t c q
         drop_and false d = refl
 
 -- an index without the pair of a row that has left its state
-index_cut : {indexed : Bool} (ids : List SlotInfo) (state : Bool) (s s' : Pairs) (es es' : Table) (key id : ℕ) (k : Kept) → IsIndex indexed ids state s es
+index_cut : {indexed : Bool} (ids : List SlotInfo) (state : Bool) (s s' : Pairs) (es es' : Table) (key id : ℕ) (k : ClauseRow) → IsIndex indexed ids state s es
     → row es id ≡ Some k → (IsTrue indexed → (noted ids k.slot).key ≡ key)
     → (IsTrue indexed → (c i : ℕ) → has_pair s' c i ≡ (not (nat_eq key c && nat_eq id i) && has_pair s c i))
     → ((c : ℕ) → stands ids state c (row es' id) ≡ false) → ((q : ℕ) → nat_eq id q ≡ false → row es' q ≡ row es q)
@@ -302,20 +302,20 @@ index_kept ids state s es es' id h here others = λ t c q. h t c q ∙ at c q
 -- ---- What a row says of the map
 
 -- the row in a state with a slot
-pub record Found (state : Bool) (o : Option Kept) (s : ℕ) : Type 0 where
-  pub k : Kept
+pub record Found (state : Bool) (o : Option ClauseRow) (s : ℕ) : Type 0 where
+  pub k : ClauseRow
   pub is : o ≡ Some k
   pub on : is_state state k.active ≡ true
   pub slot : k.slot ≡ s
 
-pub found : (state : Bool) (o : Option Kept) (s : ℕ) → row_slot state o ≡ Some s → Found state o s
+pub found : (state : Bool) (o : Option ClauseRow) (s : ℕ) → row_slot state o ≡ Some s → Found state o s
 found state None s e = absurd (none-some s e)
 found state (Some k) s e = elim (cases_Bool (is_state state k.active)) [
   | inl y ↦ record { k = k; is = refl; on = y; slot = same_Some k.slot s (let f : Some k.slot ≡ Some s = rw y at e in f) }
   | inr n ↦ absurd (none-some s (let f : None ≡ Some s = rw n at e in f))
 ]
 
-slot_of_row : (p : Entries) (o : Option Kept) → option_map (λ z. z.slot) (option_and_then (λ h. h.place) (option_map (λ k. held_of (get p k.slot) k) o)) ≡ row_slot true o
+slot_of_row : (p : Entries) (o : Option ClauseRow) → option_map (λ z. z.slot) (option_and_then (λ h. h.place) (option_map (λ k. held_of (get p k.slot) k) o)) ≡ row_slot true o
 slot_of_row p None = refl
 slot_of_row p (Some k) = elim (cases_Bool k.active) [ inl y ↦ rw y refl | inr n ↦ rw n refl ]
 
@@ -325,21 +325,21 @@ slot_at-row p es q = ap (λ o. option_map (λ z. z.slot) (option_and_then (λ h.
 pub held-row : (p : Entries) (es : Table) (q : ℕ) → is_held (store_of p es) q ≡ is_some (row es q)
 held-row p es q = ap is_some (get-store_of p es q) ∙ mapped (row es q)
   where
-    mapped : (o : Option Kept) → is_some (option_map (λ k. held_of (get p k.slot) k) o) ≡ is_some o
+    mapped : (o : Option ClauseRow) → is_some (option_map (λ k. held_of (get p k.slot) k) o) ≡ is_some o
     mapped None = refl
     mapped (Some k) = refl
 
 pub weakened-row : (p : Entries) (es : Table) (q : ℕ) → is_weakened (store_of p es) q ≡ is_some (row_slot false (row es q))
 weakened-row p es q = ap (λ b. b && not (is_active (store_of p es) q)) (held-row p es q) ∙ ap (λ o. is_some (row es q) && not (is_some o)) (slot_at-row p es q) ∙ by_row (row es q)
   where
-    by_row : (o : Option Kept) → (is_some o && not (is_some (row_slot true o))) ≡ is_some (row_slot false o)
+    by_row : (o : Option ClauseRow) → (is_some o && not (is_some (row_slot true o))) ≡ is_some (row_slot false o)
     by_row None = refl
     by_row (Some k) = elim (cases_Bool k.active) [ inl y ↦ rw y refl | inr n ↦ rw n refl ]
 
 pub literals_at-row : (p : Entries) (es : Table) (q : ℕ) → literals_at (store_of p es) q ≡ unwrap_or (literals_in p es q) []
 literals_at-row p es q = ap (λ o. unwrap_or (option_map (λ h. h.literals) o) []) (get-store_of p es q) ∙ by_row (row es q)
   where
-    by_row : (o : Option Kept) → unwrap_or (option_map (λ h. h.literals) (option_map (λ k. held_of (get p k.slot) k) o)) [] ≡ unwrap_or (option_map (λ k. set_of (entry_of (get p k.slot)).lits) o) []
+    by_row : (o : Option ClauseRow) → unwrap_or (option_map (λ h. h.literals) (option_map (λ k. held_of (get p k.slot) k) o)) [] ≡ unwrap_or (option_map (λ k. set_of (entry_of (get p k.slot)).lits) o) []
     by_row None = refl
     by_row (Some k) = refl
 
@@ -347,7 +347,7 @@ pub lits_at-row : (p : Entries) (es : Table) (q s : ℕ) → row_slot true (row 
 lits_at-row p es q s e =
     ap (λ o. unwrap_or (option_map (λ z. z.lits) (option_and_then (λ h. h.place) o)) []) (get-store_of p es q) ∙ by_row (row es q) e
   where
-    by_row : (o : Option Kept) → row_slot true o ≡ Some s → unwrap_or (option_map (λ z. z.lits) (option_and_then (λ h. h.place) (option_map (λ k. held_of (get p k.slot) k) o))) [] ≡ (entry_of (get p s)).lits
+    by_row : (o : Option ClauseRow) → row_slot true o ≡ Some s → unwrap_or (option_map (λ z. z.lits) (option_and_then (λ h. h.place) (option_map (λ k. held_of (get p k.slot) k) o))) [] ≡ (entry_of (get p s)).lits
     by_row None f = absurd (none-some s f)
     by_row (Some k) f = elim (cases_Bool k.active) [
       | inl y ↦ let g : Some k.slot ≡ Some s = rw y at f in rw y (ap (λ z. (entry_of (get p z)).lits) (same_Some k.slot s g))
@@ -372,7 +372,7 @@ is_store p es ids h = record { slots_apart = apart; same_literals = lists; sets 
           | inr n ↦ absurd (slots_differ p es ids a b x.k y.k h n x.is y.is (x.slot ∙ sym y.slot))
         ]
 
-    listed : (o : Option Kept) (c : ClauseEntry) (z : Place) → ((k : Kept) → o ≡ Some k → IsOnce (entry_of (get p k.slot)).lits) → option_map (λ k. held_of (get p k.slot) k) o ≡ Some c → c.place ≡ Some z → (set_of z.lits ≡ c.literals) × IsOnce z.lits
+    listed : (o : Option ClauseRow) (c : ClauseEntry) (z : Place) → ((k : ClauseRow) → o ≡ Some k → IsOnce (entry_of (get p k.slot)).lits) → option_map (λ k. held_of (get p k.slot) k) o ≡ Some c → c.place ≡ Some z → (set_of z.lits ≡ c.literals) × IsOnce z.lits
     listed None c z once e f = absurd (none-some c e)
     listed (Some k) c z once e f =
         let here : held_of (get p k.slot) k ≡ c = same_Some _ c e in
@@ -387,7 +387,7 @@ is_store p es ids h = record { slots_apart = apart; same_literals = lists; sets 
     lists : (id : ℕ) (c : ClauseEntry) (z : Place) → get (store_of p es) id ≡ Some c → c.place ≡ Some z → (set_of z.lits ≡ c.literals) × IsOnce z.lits
     lists id c z e f = listed (row es id) c z (λ k r. (h id k r).once) (sym (get-store_of p es id) ∙ e) f
 
-    ascending : (o : Option Kept) (c : ClauseEntry) → option_map (λ k. held_of (get p k.slot) k) o ≡ Some c → set_of c.literals ≡ c.literals
+    ascending : (o : Option ClauseRow) (c : ClauseEntry) → option_map (λ k. held_of (get p k.slot) k) o ≡ Some c → set_of c.literals ≡ c.literals
     ascending None c e = absurd (none-some c e)
     ascending (Some k) c e = let here : held_of (get p k.slot) k ≡ c = same_Some _ c e in subst (λ w. set_of w.literals ≡ w.literals) here (set_of_set (entry_of (get p k.slot)).lits)
 
@@ -400,7 +400,7 @@ is_store p es ids h = record { slots_apart = apart; same_literals = lists; sets 
 row_literals : (state : Bool) (p : Entries) (es : Table) (set : List ℕ) (i : ℕ) → is_some (row_slot state (row es i)) ≡ true → literals_at (store_of p es) i ≡ set → literals_in p es i ≡ Some set
 row_literals state p es set i on e = lits (row es i) on (sym (literals_at-row p es i) ∙ e)
   where
-    lits : (o : Option Kept) → is_some (row_slot state o) ≡ true → unwrap_or (option_map (λ k. set_of (entry_of (get p k.slot)).lits) o) [] ≡ set → option_map (λ k. set_of (entry_of (get p k.slot)).lits) o ≡ Some set
+    lits : (o : Option ClauseRow) → is_some (row_slot state o) ≡ true → unwrap_or (option_map (λ k. set_of (entry_of (get p k.slot)).lits) o) [] ≡ set → option_map (λ k. set_of (entry_of (get p k.slot)).lits) o ≡ Some set
     lits None f g = cc
     lits (Some k) f g = ap (λ z. Some z) g
 
@@ -409,7 +409,7 @@ pub index_at : {indexed : Bool} (ids : List SlotInfo) (state : Bool) (p : Entrie
     → has_pair s (key_of set) i ≡ true → literals_in p es i ≡ Some set → IsRowWith state p es set i
 index_at ids state p es s set i h t m e = (on (row es i) (sym (h t (key_of set) i) ∙ m), e)
   where
-    on : (o : Option Kept) → stands ids state (key_of set) o ≡ true → is_some (row_slot state o) ≡ true
+    on : (o : Option ClauseRow) → stands ids state (key_of set) o ≡ true → is_some (row_slot state o) ≡ true
     on None f = cc
     on (Some k) f = let g : is_state state k.active ≡ true = (and_parts (nat_eq (noted ids k.slot).key (key_of set)) _ f).1 in rw g refl
 
@@ -418,7 +418,7 @@ pub index_from : {indexed : Bool} (state : Bool) (p : Entries) (es : Table) (ids
     → IsRowWith state p es set i → has_pair s (key_of set) i ≡ true
 index_from state p es ids s set i rows h t w = h t (key_of set) i ∙ stand (row es i) refl w.0 w.1
   where
-    stand : (o : Option Kept) → row es i ≡ o → is_some (row_slot state o) ≡ true → option_map (λ k. set_of (entry_of (get p k.slot)).lits) o ≡ Some set → stands ids state (key_of set) o ≡ true
+    stand : (o : Option ClauseRow) → row es i ≡ o → is_some (row_slot state o) ≡ true → option_map (λ k. set_of (entry_of (get p k.slot)).lits) o ≡ Some set → stands ids state (key_of set) o ≡ true
     stand None r f g = cc
     stand (Some k) r f g =
         let keyed : (noted ids k.slot).key ≡ key_of set = (rows i k r).keyed t ∙ ap key_of (same_Some _ set g) in
@@ -431,7 +431,7 @@ index_from state p es ids s set i rows h t w = h t (key_of set) i ∙ stand (row
 pub row_noted : {indexed : Bool} (state : Bool) (p : Entries) (es : Table) (ids : List SlotInfo) (set : List ℕ) (i : ℕ) → AreRows indexed p ids es → IsRowWith state p es set i → (s : ℕ) × (s < length ids) × ((noted ids s).id ≡ i)
 row_noted state p es ids set i h w = at (row es i) refl w.0
   where
-    at : (o : Option Kept) → row es i ≡ o → is_some (row_slot state o) ≡ true → (s : ℕ) × (s < length ids) × ((noted ids s).id ≡ i)
+    at : (o : Option ClauseRow) → row es i ≡ o → is_some (row_slot state o) ≡ true → (s : ℕ) × (s < length ids) × ((noted ids s).id ≡ i)
     at None r f = cc
     at (Some k) r f = let l = (h i k r).listed in (k.slot, l.0, l.1)
 
@@ -451,7 +451,7 @@ none_id state p es ids set rows h x w =
 
 -- ---- The changes
 
-switched : (b : Bool) (es es' : Table) (id : ℕ) (k : Kept) → row es id ≡ Some k
+switched : (b : Bool) (es es' : Table) (id : ℕ) (k : ClauseRow) → row es id ≡ Some k
     → ((q : ℕ) → row es' q ≡ cond (nat_eq id q) (option_map (with_state b) (row es q)) (row es q))
     → (q : ℕ) → row es' q ≡ cond (nat_eq id q) (Some (with_state b k)) (row es q)
 switched b es es' id k here rows q = rows q ∙ elim (cases_Bool (nat_eq id q)) [
@@ -459,10 +459,10 @@ switched b es es' id k here rows q = rows q ∙ elim (cases_Bool (nat_eq id q)) 
   | inr n ↦ rw n refl
 ]
 
-others_of : (es es' : Table) (id : ℕ) (o : Option Kept) → ((q : ℕ) → row es' q ≡ cond (nat_eq id q) o (row es q)) → (q : ℕ) → nat_eq id q ≡ false → row es' q ≡ row es q
+others_of : (es es' : Table) (id : ℕ) (o : Option ClauseRow) → ((q : ℕ) → row es' q ≡ cond (nat_eq id q) o (row es q)) → (q : ℕ) → nat_eq id q ≡ false → row es' q ≡ row es q
 others_of es es' id o rows q n = rows q ∙ ap (λ b. cond b o (row es q)) n
 
-here_of : (es es' : Table) (id : ℕ) (o : Option Kept) → ((q : ℕ) → row es' q ≡ cond (nat_eq id q) o (row es q)) → row es' id ≡ o
+here_of : (es es' : Table) (id : ℕ) (o : Option ClauseRow) → ((q : ℕ) → row es' q ≡ cond (nat_eq id q) o (row es q)) → row es' id ≡ o
 here_of es es' id o rows = rows id ∙ ap (λ b. cond b o (row es id)) (eq-eqb id id refl)
 
 -- what is known when a row is entered
@@ -476,19 +476,19 @@ pub record Adds (indexed : Bool) (p : Entries) (es es' : Table) (a a' w : Pairs)
   pub pairs : IsTrue indexed → (k i : ℕ) → has_pair a' k i ≡ ((nat_eq key k && nat_eq id i) || has_pair a k i)
 
 module _ {indexed : Bool} (p : Entries) (es es' : Table) (a a' w : Pairs) (ids : List SlotInfo) (id key s : ℕ) (ls : List ℕ) (h : Adds indexed p es es' a a' w ids id key s ls) where
-  entries-added : (q : ℕ) (r : Kept) → nat_eq id q ≡ false → row es q ≡ Some r → get (insert p s (new_entry (firsts ls))) r.slot ≡ get p r.slot
+  entries-added : (q : ℕ) (r : ClauseRow) → nat_eq id q ≡ false → row es q ≡ Some r → get (insert p s (new_entry (firsts ls))) r.slot ≡ get p r.slot
   entries-added q r n e = get_insert_other p s r.slot (new_entry (firsts ls)) (slot_dead p es ids s q r h.inside.rows h.dead e)
 
   pub store-added : store_of (insert p s (new_entry (firsts ls))) es' ≡ insert (store_of p es) id (new_clause ls s)
   store-added =
-      let k : Kept = record { slot = s; active = true } in
+      let k : ClauseRow = record { slot = s; active = true } in
       let e : get (insert p s (new_entry (firsts ls))) s ≡ Some (new_entry (firsts ls)) = get_insert_same p s (new_entry (firsts ls)) in
       store_put p (insert p s (new_entry (firsts ls))) es es' id k (new_clause ls s) h.rows entries-added
-      (ap (λ o. held_of o k) e ∙ (λ i. active_clause (set_of-firsts ls i) (firsts ls) s))
+      (ap (λ o. held_of o k) e ∙ (λ i. active_entry (set_of-firsts ls i) (firsts ls) s))
 
   pub inside-added : IsStoreInside indexed (insert p s (new_entry (firsts ls))) es' a' w ids
   inside-added =
-      let k : Kept = record { slot = s; active = true } in
+      let k : ClauseRow = record { slot = s; active = true } in
       let e : get (insert p s (new_entry (firsts ls))) s ≡ Some (new_entry (firsts ls)) = get_insert_same p s (new_entry (firsts ls)) in
       let r : IsRow indexed (Some (new_entry (firsts ls))) ids id k = record { live = refl; listed = (h.listed.0, ap (λ z. z.id) h.listed.1); once = once-firsts ls [] tt; keyed = λ t. ap (λ z. z.key) h.listed.1 ∙ h.keyed t ∙ ap key_of (sym (set_of-firsts ls)) } in
       record {
@@ -507,7 +507,7 @@ module _ {indexed : Bool} (p : Entries) (es es' : Table) (a a' w : Pairs) (ids :
       let f = found true (row es q) s (sym (slot_at-row p es q) ∙ e) in slot_dead p es ids s q f.k h.inside.rows h.dead f.is f.slot
 
 -- what is known when an active row leaves
-pub record Cuts (indexed : Bool) (p : Entries) (es es' : Table) (a a' w : Pairs) (ids : List SlotInfo) (id key : ℕ) (k : Kept) : Type 0 where
+pub record Cuts (indexed : Bool) (p : Entries) (es es' : Table) (a a' w : Pairs) (ids : List SlotInfo) (id key : ℕ) (k : ClauseRow) : Type 0 where
   pub inside : IsStoreInside indexed p es a w ids
   pub here : row es id ≡ Some k
   pub on : k.active ≡ true
@@ -515,8 +515,8 @@ pub record Cuts (indexed : Bool) (p : Entries) (es es' : Table) (a a' w : Pairs)
   pub rows : (q : ℕ) → row es' q ≡ cond (nat_eq id q) None (row es q)
   pub pairs : IsTrue indexed → (c i : ℕ) → has_pair a' c i ≡ (not (nat_eq key c && nat_eq id i) && has_pair a c i)
 
-module _ {indexed : Bool} (p : Entries) (es es' : Table) (a a' w : Pairs) (ids : List SlotInfo) (id key : ℕ) (k : Kept) (h : Cuts indexed p es es' a a' w ids id key k) where
-  entries-cut : (q : ℕ) (r : Kept) → nat_eq id q ≡ false → row es q ≡ Some r → get (remove p k.slot) r.slot ≡ get p r.slot
+module _ {indexed : Bool} (p : Entries) (es es' : Table) (a a' w : Pairs) (ids : List SlotInfo) (id key : ℕ) (k : ClauseRow) (h : Cuts indexed p es es' a a' w ids id key k) where
+  entries-cut : (q : ℕ) (r : ClauseRow) → nat_eq id q ≡ false → row es q ≡ Some r → get (remove p k.slot) r.slot ≡ get p r.slot
   entries-cut q r n e = get_remove_other p k.slot r.slot (slots_differ p es ids q id r k h.inside.rows n e h.here)
 
   pub store-cut : store_of (remove p k.slot) es' ≡ remove (store_of p es) id
@@ -535,7 +535,7 @@ module _ {indexed : Bool} (p : Entries) (es es' : Table) (a a' w : Pairs) (ids :
       and_false false = refl
 
 -- what is known when a row goes from one state to the other
-pub record Switches (indexed : Bool) (p : Entries) (es es' : Table) (from from' to to' : Pairs) (ids : List SlotInfo) (id key : ℕ) (k : Kept) (b : Bool) : Type 0 where
+pub record Switches (indexed : Bool) (p : Entries) (es es' : Table) (from from' to to' : Pairs) (ids : List SlotInfo) (id key : ℕ) (k : ClauseRow) (b : Bool) : Type 0 where
   pub all : AreRows indexed p ids es
   pub from_index : IsIndex indexed ids (not b) from es
   pub to_index : IsIndex indexed ids b to es
@@ -562,9 +562,9 @@ and_none : (a b : Bool) → b ≡ false → (a && b) ≡ false
 and_none true b e = e
 and_none false b e = refl
 
-module _ {indexed : Bool} (p p' : Entries) (es es' : Table) (from from' to to' : Pairs) (ids : List SlotInfo) (id key : ℕ) (k : Kept) (b : Bool) (h : Switches indexed p es es' from from' to to' ids id key k b)
+module _ {indexed : Bool} (p p' : Entries) (es es' : Table) (from from' to to' : Pairs) (ids : List SlotInfo) (id key : ℕ) (k : ClauseRow) (b : Bool) (h : Switches indexed p es es' from from' to to' ids id key k b)
     (entries : (t : ℕ) → t ≢ k.slot → get p' t ≡ get p t) (e : Entry) (here : get p' k.slot ≡ Some e) (lits : e.lits ≡ (entry_of (get p k.slot)).lits) where
-  entries-switched : (q : ℕ) (r : Kept) → nat_eq id q ≡ false → row es q ≡ Some r → get p' r.slot ≡ get p r.slot
+  entries-switched : (q : ℕ) (r : ClauseRow) → nat_eq id q ≡ false → row es q ≡ Some r → get p' r.slot ≡ get p r.slot
   entries-switched q r n f = entries r.slot (slots_differ p es ids q id r k h.all n f h.here)
 
   rows-switched : (q : ℕ) → row es' q ≡ cond (nat_eq id q) (Some (with_state b k)) (row es q)
@@ -651,13 +651,13 @@ freed_again p q r s e dead f g = sym (g ∙ ap (λ z. remove z s) f ∙ freed p 
 pub free_row : (es : Table) (q : ℕ) → is_some (row es q) ≡ false → row es q ≡ None
 free_row es q = by_row (row es q)
   where
-    by_row : (o : Option Kept) → is_some o ≡ false → o ≡ None
+    by_row : (o : Option ClauseRow) → is_some o ≡ false → o ≡ None
     by_row None e = refl
     by_row (Some k) e = absurd (both_ways true e refl)
 
 -- ---- A row's entry
 
-pub entry_live : {indexed : Bool} (p : Entries) (es : Table) (ids : List SlotInfo) (id : ℕ) (k : Kept) → AreRows indexed p ids es → row es id ≡ Some k → (e : Entry) × (get p k.slot ≡ Some e)
+pub entry_live : {indexed : Bool} (p : Entries) (es : Table) (ids : List SlotInfo) (id : ℕ) (k : ClauseRow) → AreRows indexed p ids es → row es id ≡ Some k → (e : Entry) × (get p k.slot ≡ Some e)
 entry_live p es ids id k h r = of (get p k.slot) (h id k r).live
   where
     of : (o : Option Entry) → is_some o ≡ true → (e : Entry) × (o ≡ Some e)
@@ -665,12 +665,12 @@ entry_live p es ids id k h r = of (get p k.slot) (h id k r).live
     of (Some e) f = (e, refl)
 
 -- the literal set of a row
-pub literals_here : (p : Entries) (es : Table) (m : Store) (id : ℕ) (k : Kept) (e : Entry) → store_of p es ≡ m → row es id ≡ Some k → get p k.slot ≡ Some e → set_of e.lits ≡ literals_at m id
+pub literals_here : (p : Entries) (es : Table) (m : Store) (id : ℕ) (k : ClauseRow) (e : Entry) → store_of p es ≡ m → row es id ≡ Some k → get p k.slot ≡ Some e → set_of e.lits ≡ literals_at m id
 literals_here p es m id k e v r g =
     ap (λ o. set_of (entry_of o).lits) (sym g) ∙ sym (ap (λ o. unwrap_or (option_map (λ k. set_of (entry_of (get p k.slot)).lits) o) []) r) ∙ sym (literals_at-row p es id) ∙ ap (λ z. literals_at z id) v
 
 -- the slot that keeps a row's clause
-pub kept_here : (p : Entries) (es : Table) (m : Store) (id : ℕ) (k : Kept) → store_of p es ≡ m → row es id ≡ Some k → k.slot ≡ kept_at m id
+pub kept_here : (p : Entries) (es : Table) (m : Store) (id : ℕ) (k : ClauseRow) → store_of p es ≡ m → row es id ≡ Some k → k.slot ≡ kept_at m id
 kept_here p es m id k v r = sym (ap (λ o. unwrap_or (option_map (λ h. h.slot) (option_map (λ k. held_of (get p k.slot) k) o)) 0) r)
     ∙ sym (ap (λ o. unwrap_or (option_map (λ h. h.slot) o) 0) (get-store_of p es id)) ∙ ap (λ z. kept_at z id) v
 
@@ -689,7 +689,7 @@ unlinked_at p s e g =
     get_insert_same (with_link p s which.One None) s _ ∙ ap (λ z. Some (record { lits = z.lits; one = z.one; two = None })) first
 
 -- a slot of a weakened row is no active clause's
-pub is_fresh : {indexed : Bool} (p : Entries) (es : Table) (ids : List SlotInfo) (id : ℕ) (k : Kept) → AreRows indexed p ids es → row es id ≡ Some k → is_state false k.active ≡ true → IsFresh (store_of p es) k.slot
+pub is_fresh : {indexed : Bool} (p : Entries) (es : Table) (ids : List SlotInfo) (id : ℕ) (k : ClauseRow) → AreRows indexed p ids es → row es id ≡ Some k → is_state false k.active ≡ true → IsFresh (store_of p es) k.slot
 is_fresh p es ids id k h r off q e =
     let f = found true (row es q) k.slot (sym (slot_at-row p es q) ∙ e) in
     elim (cases_Bool (nat_eq id q)) [
@@ -698,7 +698,7 @@ is_fresh p es ids id k h r off q e =
       | inr n ↦ slots_differ p es ids q id f.k k h n f.is r f.slot
     ]
 
-pub restored : {indexed : Bool} (p : Entries) (es : Table) (ids : List SlotInfo) (m : Store) (id : ℕ) (k : Kept) (e : Entry) → store_of p es ≡ m → AreRows indexed p ids es → row es id ≡ Some k → is_state false k.active ≡ true → get p k.slot ≡ Some e
+pub restored : {indexed : Bool} (p : Entries) (es : Table) (ids : List SlotInfo) (m : Store) (id : ℕ) (k : ClauseRow) (e : Entry) → store_of p es ≡ m → AreRows indexed p ids es → row es id ≡ Some k → is_state false k.active ≡ true → get p k.slot ≡ Some e
     → (n : Store) → ((c : ClauseEntry) → held_of (Some (record { lits = e.lits; one = None; two = None })) (with_state true k) ≡ c → n ≡ insert (store_of p es) id c) → IsRestored m id n
 restored p es ids m id k e v h r off g n change =
     let set : set_of e.lits ≡ literals_at m id = literals_here p es m id k e v r g in
@@ -709,7 +709,7 @@ restored p es ids m id k e v h r off g n change =
       fresh = subst (λ z. IsFresh z k.slot) v (is_fresh p es ids id k h r off);
       once = subst (λ o. IsOnce (entry_of o).lits) g (h id k r).once;
       same_literals = set;
-      changed = change (active_clause (literals_at m id) e.lits k.slot) (λ i. active_clause (set i) e.lits k.slot) ∙ ap (λ z. insert z id (active_clause (literals_at m id) e.lits k.slot)) v;
+      changed = change (active_entry (literals_at m id) e.lits k.slot) (λ i. active_entry (set i) e.lits k.slot) ∙ ap (λ z. insert z id (active_entry (literals_at m id) e.lits k.slot)) v;
     }
 
 pub live_found : (p p' : Entries) (s : ℕ) (e : Entry) → p' ≡ insert p s e → is_some (get p' s) ≡ true

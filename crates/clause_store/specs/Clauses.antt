@@ -96,20 +96,20 @@ abbrev pub literals_at : Store → ℕ → List ℕ
 literals_at m id = unwrap_or (option_map (λ h. h.literals) (finmap.get m id)) []
 
 -- an active clause of this set and list, with no links
-abbrev pub active_clause : List ℕ → List ℕ → ℕ → ClauseEntry
-active_clause set ls s = record { literals = set; slot = s; place = Some (record { slot = s; lits = ls; one = None; two = None }) }
+abbrev pub active_entry : List ℕ → List ℕ → ℕ → ClauseEntry
+active_entry set ls s = record { literals = set; slot = s; place = Some (record { slot = s; lits = ls; one = None; two = None }) }
 
 -- an active clause of these literals, as `add` makes it
 abbrev pub new_clause : List ℕ → ℕ → ClauseEntry
-new_clause ls s = active_clause (set_of ls) (firsts ls) s
+new_clause ls s = active_entry (set_of ls) (firsts ls) s
 
 -- a weakened clause of this set, which is kept at this slot
-abbrev pub weakened_clause : List ℕ → ℕ → ClauseEntry
-weakened_clause set s = record { literals = set; slot = s; place = None }
+abbrev pub weakened_entry : List ℕ → ℕ → ClauseEntry
+weakened_entry set s = record { literals = set; slot = s; place = None }
 
 -- the clause of an id, an empty weakened one where the id is free
 abbrev pub clause_at : Store → ℕ → ClauseEntry
-clause_at m id = unwrap_or (finmap.get m id) (weakened_clause [] 0)
+clause_at m id = unwrap_or (finmap.get m id) (weakened_entry [] 0)
 
 -- a link of a place
 abbrev pub place_link : Which → Place → Option ℕ
@@ -150,7 +150,7 @@ pub record IsRestored (old : Store) (id : ℕ) (new : Store) : Type 0 where
   pub fresh : IsFresh old slot
   pub once : IsOnce lits
   pub same_literals : set_of lits ≡ literals_at old id
-  pub changed : new ≡ finmap.insert old id (active_clause (literals_at old id) lits slot)
+  pub changed : new ≡ finmap.insert old id (active_entry (literals_at old id) lits slot)
 
 -- the id is that of an active clause with this set
 abbrev pub IsActiveWith : Store → List ℕ → ℕ → Type 0

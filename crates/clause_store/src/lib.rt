@@ -11,10 +11,10 @@
 
 ghost use Rattle.std.specs.Prelude.{◌≡◌, ℕ, ◌<◌, ◌≤◌, List, length, slice_index, OnOk, IfOk, IfErr, IfSome, IfNone, IsTrue, true, false, Some, None};
 ghost use Rattle.std.specs.FinMap as finmap;
-ghost use Rattle.clause_store.specs.Clauses.{slot_at, lits_at, is_active, is_weakened, is_held, IsSlot, IsFresh, IsActiveWith, IsWeakenedWith, IsRestored, literals_at, kept_at, link_at, new_clause, weakened_clause, with_link, with_swap, IsStore};
+ghost use Rattle.clause_store.specs.Clauses.{slot_at, lits_at, is_active, is_weakened, is_held, IsSlot, IsFresh, IsActiveWith, IsWeakenedWith, IsRestored, literals_at, kept_at, link_at, new_clause, weakened_entry, with_link, with_swap, IsStore};
 ghost use Rattle.clause_store.specs.declared.StoreFault.TheVariants as fault;
 
-use crate::rows::{Rows, SlotInfo};
+use crate::rows::{Rows, SlotInfo, State};
 use lit_pool::Pool;
 pub use lit_pool::{Slot, Which};
 use lits::{Lit, LitSet};
@@ -142,7 +142,7 @@ impl Store {
     /// Makes an active clause a weakened one. NotActive comes exactly where the id isn't active; the store stays after each
     /// refusal.
     pub fn weaken(&mut self, id: u64) -> Result<(), StoreFault>
-        ensures ok { IfOk result (λ _. self.new ≡ finmap.insert self.old id (weakened_clause (literals_at self.old id) (kept_at self.old id))) }
+        ensures ok { IfOk result (λ _. self.new ≡ finmap.insert self.old id (weakened_entry (literals_at self.old id) (kept_at self.old id))) }
         ensures active { IfOk result (λ _. IsTrue (is_active self.old id)) }
         ensures err { IfErr result (λ _. self.new ≡ self.old) }
         ensures inactive { IfErr result (λ e. is_active self.old id ≡ false → e ≡ fault.NotActive) }
@@ -186,7 +186,13 @@ impl Store {
         ensures none { IfNone result ((x : ℕ) → IsActiveWith self.now set.now x → ⊥) }
     {
         if !self.rows.indexed {
-            return rows::least_noted(&self.noted, &self.rows.clauses, &self.pool, true, set);
+            return rows::least_noted(
+                &self.noted,
+                &self.rows.clauses,
+                &self.pool,
+                State::Active,
+                set,
+            );
         }
         self.rows.active.least(&self.rows.clauses, &self.pool, set)
     }
@@ -198,7 +204,13 @@ impl Store {
         ensures none { IfNone result ((x : ℕ) → IsWeakenedWith self.now set.now x → ⊥) }
     {
         if !self.rows.indexed {
-            return rows::least_noted(&self.noted, &self.rows.clauses, &self.pool, false, set);
+            return rows::least_noted(
+                &self.noted,
+                &self.rows.clauses,
+                &self.pool,
+                State::Weakened,
+                set,
+            );
         }
         self.rows
             .weakened

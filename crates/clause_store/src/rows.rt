@@ -3,11 +3,11 @@
 
 ghost use Rattle.std.specs.Prelude.{◌≡◌, ◌≢◌, ℕ, ◌+◌, ◌<◌, ◌≤◌, Bool, true, false, not, nat_eq, List, length, OnOk, OnErr, IfSome, IfNone, IsTrue, is_some, MatchOption, Some, None, IfOk, if◌then◌else◌, option_map, option_and_then, ◌&&◌, ◌||◌, ◌↔◌};
 ghost use Rattle.clause_store.specs.Index.{has_pair};
-ghost use Rattle.clause_store.specs.Rows.{row, row_slot, is_state, with_state, noted as noted_at, SameListed, ArePooled, IsRowWith};
+ghost use Rattle.clause_store.specs.Rows.{row, row_slot, is_state, with_state, noted as noted_at, SameListed, ArePooled, IsRowWith, says_active};
 
 use crate::index;
 use crate::index::Pairs;
-use crate::table::{Kept, Table};
+use crate::table::{ClauseRow, Table};
 use lit_pool::{Pool, Slot};
 use lits::LitSet;
 use std::alloc::{AllocError, Global};
@@ -62,22 +62,30 @@ pub(crate) fn key_at(noted: &Vec<SlotInfo>, indexed: bool, slot: Slot) -> u64
     }
 }
 
-/// Whether an id is that of an active clause, or of a weakened one.
-fn has_state(clauses: &Table, id: u64, active: bool) -> bool
-    ensures { result ≡ is_some (row_slot active (row clauses.now id)) }
+/// Which clauses are asked for.
+#[derive(Clone, Copy)]
+pub(crate) enum State {
+    Active,
+    Weakened,
+}
+
+/// Whether an id is that of a clause in this state.
+fn has_state(clauses: &Table, id: u64, state: State) -> bool
+    ensures { result ≡ is_some (row_slot (says_active state) (row clauses.now id)) }
 {
-    match clauses.get(id) {
-        Some(kept) => kept.active == active,
-        None => false,
+    match (clauses.get(id), state) {
+        (Some(kept), State::Active) => kept.active,
+        (Some(kept), State::Weakened) => !kept.active,
+        (None, _) => false,
     }
 }
 
 /// Whether an id is that of a clause in this state with this set.
-fn has_set(clauses: &Table, pool: &Pool, id: u64, active: bool, set: &LitSet) -> bool
+fn has_set(clauses: &Table, pool: &Pool, id: u64, state: State, set: &LitSet) -> bool
     requires { ArePooled pool.now clauses.now }
-    ensures { IsTrue result ↔ IsRowWith active pool.now clauses.now set.now id }
+    ensures { IsTrue result ↔ IsRowWith (says_active state) pool.now clauses.now set.now id }
 {
-    has_state(clauses, id, active) && index::is_clause(clauses, pool, id, set)
+    has_state(clauses, id, state) && index::is_clause(clauses, pool, id, set)
 }
 
 /// The least id that is noted whose clause is in this state and has this set.
@@ -85,19 +93,19 @@ pub(crate) fn least_noted(
     noted: &Vec<SlotInfo>,
     clauses: &Table,
     pool: &Pool,
-    active: bool,
+    state: State,
     set: &LitSet,
 ) -> Option<u64>
     requires { ArePooled pool.now clauses.now }
-    ensures found { IfSome result (λ i. IsRowWith active pool.now clauses.now set.now i) }
-    ensures least { IfSome result (λ i. (s : ℕ) → s < length noted.now.items → IsRowWith active pool.now clauses.now set.now (noted_at noted.now.items s).id → i ≤ (noted_at noted.now.items s).id) }
-    ensures none { IfNone result ((s : ℕ) → s < length noted.now.items → IsRowWith active pool.now clauses.now set.now (noted_at noted.now.items s).id → ⊥) }
+    ensures found { IfSome result (λ i. IsRowWith (says_active state) pool.now clauses.now set.now i) }
+    ensures least { IfSome result (λ i. (s : ℕ) → s < length noted.now.items → IsRowWith (says_active state) pool.now clauses.now set.now (noted_at noted.now.items s).id → i ≤ (noted_at noted.now.items s).id) }
+    ensures none { IfNone result ((s : ℕ) → s < length noted.now.items → IsRowWith (says_active state) pool.now clauses.now set.now (noted_at noted.now.items s).id → ⊥) }
 {
     let mut least = None;
     let mut s = 0;
     while s < noted.len() {
         let id = noted[s].id;
-        if has_set(clauses, pool, id, active, set) {
+        if has_set(clauses, pool, id, state, set) {
             least = index::lesser(least, Some(id));
         }
         s += 1;
@@ -174,7 +182,7 @@ impl Rows {
         if self.indexed {
             self.active.put(key, id)?;
         }
-        let kept = Kept { slot, active: true };
+        let kept = ClauseRow { slot, active: true };
         if self.clauses.insert(id, &kept, limit).is_err() {
             if self.indexed {
                 self.active.cut(key, id);

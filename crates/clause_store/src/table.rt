@@ -12,7 +12,7 @@ use std::collections::HashMap;
 
 /// What is kept of a clause.
 #[derive(Clone, Copy)]
-pub(crate) struct Kept {
+pub(crate) struct ClauseRow {
     pub(crate) slot: Slot,
     pub(crate) active: bool,
 }
@@ -29,7 +29,7 @@ pub(crate) enum Cell {
 #[derive(Drop)]
 pub(crate) struct Table {
     dense: Vec<Cell>,
-    far: HashMap<u64, Kept>,
+    far: HashMap<u64, ClauseRow>,
 }
 
 /// The end of the ids that the dense part makes place for, by the count of clauses: its size is bounded by theirs.
@@ -39,13 +39,13 @@ pub(crate) fn dense_limit(count: usize) -> u64 {
 
 /// The row that a cell has.
 #[inline(always)]
-fn kept_in(cell: &Cell) -> Option<Kept>
+fn kept_in(cell: &Cell) -> Option<ClauseRow>
     ensures { result ≡ kept_of cell.now }
 {
     match *cell {
         Cell::Free => None,
-        Cell::Active(slot) => Some(Kept { slot, active: true }),
-        Cell::Weakened(slot) => Some(Kept {
+        Cell::Active(slot) => Some(ClauseRow { slot, active: true }),
+        Cell::Weakened(slot) => Some(ClauseRow {
             slot,
             active: false,
         }),
@@ -65,7 +65,7 @@ fn cell_for(slot: Slot, active: bool) -> Cell
 
 /// What the dense part has at an id.
 #[inline(always)]
-fn dense_at(dense: &Vec<Cell>, id: u64) -> Option<Kept>
+fn dense_at(dense: &Vec<Cell>, id: u64) -> Option<ClauseRow>
     ensures { result ≡ dense_row dense.now.items id }
 {
     let at = id as usize;
@@ -106,7 +106,7 @@ fn write(dense: &mut Vec<Cell>, id: u64, cell: Cell) -> bool
 
 /// What the far part has at an id.
 #[inline(always)]
-fn far_at(far: &HashMap<u64, Kept>, id: u64) -> Option<Kept>
+fn far_at(far: &HashMap<u64, ClauseRow>, id: u64) -> Option<ClauseRow>
     ensures { result ≡ far_row far.now.entries id }
 {
     if far.is_empty() {
@@ -119,7 +119,7 @@ fn far_at(far: &HashMap<u64, Kept>, id: u64) -> Option<Kept>
 }
 
 /// Enters a row into the far part.
-fn put_far(far: &mut HashMap<u64, Kept>, id: u64, kept: Kept) -> Result<(), AllocError>
+fn put_far(far: &mut HashMap<u64, ClauseRow>, id: u64, kept: ClauseRow) -> Result<(), AllocError>
     ensures ok { OnOk result ((q : ℕ) → far_row far.new.entries q ≡ (if nat_eq id q then Some kept else far_row far.old.entries q)) }
     ensures err { OnErr result ((q : ℕ) → far_row far.new.entries q ≡ far_row far.old.entries q) }
 {
@@ -130,7 +130,7 @@ fn put_far(far: &mut HashMap<u64, Kept>, id: u64, kept: Kept) -> Result<(), Allo
 }
 
 /// Takes a row out of the far part, where there is one.
-fn cut_far(far: &mut HashMap<u64, Kept>, id: u64)
+fn cut_far(far: &mut HashMap<u64, ClauseRow>, id: u64)
     ensures { (q : ℕ) → far_row far.new.entries q ≡ (if nat_eq id q then None else far_row far.old.entries q) }
 {
     if !far.is_empty() {
@@ -139,7 +139,7 @@ fn cut_far(far: &mut HashMap<u64, Kept>, id: u64)
 }
 
 /// Sets whether a row of the far part is active.
-fn set_far(far: &mut HashMap<u64, Kept>, id: u64, active: bool)
+fn set_far(far: &mut HashMap<u64, ClauseRow>, id: u64, active: bool)
     ensures { (q : ℕ) → far_row far.new.entries q ≡ (if nat_eq id q then option_map (with_state active) (far_row far.old.entries q) else far_row far.old.entries q) }
 {
     if let Some(kept) = far.get_mut(&id) {
@@ -160,7 +160,7 @@ impl Table {
 
     /// The row of an id.
     #[inline(always)]
-    pub(crate) fn get(&self, id: u64) -> Option<Kept>
+    pub(crate) fn get(&self, id: u64) -> Option<ClauseRow>
         ensures { result ≡ row self.now id }
     {
         match dense_at(&self.dense, id) {
@@ -177,7 +177,7 @@ impl Table {
     }
 
     /// Enters a row. The dense part grows to have a place for an id below `limit`.
-    pub(crate) fn insert(&mut self, id: u64, kept: &Kept, limit: u64) -> Result<(), AllocError>
+    pub(crate) fn insert(&mut self, id: u64, kept: &ClauseRow, limit: u64) -> Result<(), AllocError>
         ensures ok { OnOk result ((q : ℕ) → row self.new q ≡ (if nat_eq id q then Some kept.now else row self.old q)) }
         ensures err { OnErr result ((q : ℕ) → row self.new q ≡ row self.old q) }
     {

@@ -9,7 +9,7 @@ use Rattle.std.specs.FinMap as finmap
 use Rattle.std.specs.FinMap.{get-insert, get-empty}
 use Rattle.lits.specs.Literal.{var}
 use Rattle.lits.proofs.Ascending.{set_of_at}
-use Rattle.clause_store.specs.Clauses.{ClauseEntry, Store, new_clause, weakened_clause, literals_at, kept_at}
+use Rattle.clause_store.specs.Clauses.{ClauseEntry, Store, new_clause, weakened_entry, literals_at, kept_at}
 
 -- the variables of all clauses are at most this one
 abbrev pub HasRoom : Store → ℕ → Type 0
@@ -32,8 +32,8 @@ at_held : (m : Store) (id v : ℕ) → HasRoom m v → (o : Option ClauseEntry) 
 at_held m id v old None e l x = absurd (omega (arith, x.1))
 at_held m id v old (Some h) e l x = old id l h e x
 
-pub room-weaken : (m n : Store) (id v : ℕ) → n ≡ finmap.insert m id (weakened_clause (literals_at m id) (kept_at m id)) → HasRoom m v → HasRoom n v
-room-weaken m n id v e old = room-insert m n id v (weakened_clause (literals_at m id) (kept_at m id)) e (λ l x. at_held m id v old (finmap.get m id) refl l x) old
+pub room-weaken : (m n : Store) (id v : ℕ) → n ≡ finmap.insert m id (weakened_entry (literals_at m id) (kept_at m id)) → HasRoom m v → HasRoom n v
+room-weaken m n id v e old = room-insert m n id v (weakened_entry (literals_at m id) (kept_at m id)) e (λ l x. at_held m id v old (finmap.get m id) refl l x) old
 
 pub room-empty : (m : Store) (v : ℕ) → m ≡ finmap.empty → HasRoom m v
 room-empty m v e k l h f x = let g : None ≡ Some h = sym (ap (λ z. finmap.get z k) e ∙ get-empty nat_cmp k) ∙ f in cc g

@@ -70,7 +70,7 @@ module _ (old now new : Store) (ids : List ℕ) (i : ℕ) (went : Went lsteps.We
   pub weaken-stop : i < length ids → store.is_active now (get_or ids i 0) ≡ false → Turned lsteps.Weaken own.is_active Weakened old new ids (Some (i + 1))
   weaken-stop lt f = turned-stop lsteps.Weaken own.is_active Weakened weakens old now new ids i went lt (sym (active-store now (get_or ids i 0)) ∙ f)
 
-  pub weaken-on : i < length ids → new ≡ finmap.insert now (get_or ids i 0) (store.weakened_clause (literals_at now (get_or ids i 0)) (store.kept_at now (get_or ids i 0))) → store.is_active now (get_or ids i 0) ≡ true
+  pub weaken-on : i < length ids → new ≡ finmap.insert now (get_or ids i 0) (store.weakened_entry (literals_at now (get_or ids i 0)) (store.kept_at now (get_or ids i 0))) → store.is_active now (get_or ids i 0) ≡ true
       → Went lsteps.Weaken own.is_active Weakened (clauses_of_store old) (clauses_of_store new) ids (i + 1)
   weaken-on lt e active = let id = get_or ids i 0 in let ls = literals_at now id in let change = store_weakened now new id ls (store.kept_at now id) e in let was = get-active now id active in
       went-on lsteps.Weaken own.is_active Weakened weakens (clauses_of_store old) (clauses_of_store now) ids i went lt (clauses_of_store new) (sym (active-store now id) ∙ active)

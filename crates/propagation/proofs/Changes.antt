@@ -334,10 +334,10 @@ held_if_active m k a = by_value (get m k) refl
 
 -- ---- A clause weakened
 
-pub clauses_of-weakened : (m n : Store) (k : ℕ) → n ≡ insert m k (held.weakened_clause (held.literals_at m k) (held.kept_at m k)) → clauses_of n ≡ insert (clauses_of m) k (weakened_clause (seen.literals_at (clauses_of m) k))
-clauses_of-weakened m n k e = ap clauses_of e ∙ clauses_of-insert m k (held.weakened_clause (held.literals_at m k) (held.kept_at m k)) ∙ ap (λ z. insert (clauses_of m) k (weakened_clause z)) (sym (literals_seen m k))
+pub clauses_of-weakened : (m n : Store) (k : ℕ) → n ≡ insert m k (held.weakened_entry (held.literals_at m k) (held.kept_at m k)) → clauses_of n ≡ insert (clauses_of m) k (weakened_clause (seen.literals_at (clauses_of m) k))
+clauses_of-weakened m n k e = ap clauses_of e ∙ clauses_of-insert m k (held.weakened_entry (held.literals_at m k) (held.kept_at m k)) ∙ ap (λ z. insert (clauses_of m) k (weakened_clause z)) (sym (literals_seen m k))
 
-pub value_weakened : (m n : Store) (e : EngineView) (k : ℕ) (entries : List TrailEntry) (vars : ℕ) (r : Result (Unit {0}) StoreFault) → engine_of m entries vars ≡ e → IfOk r (λ _. n ≡ insert m k (held.weakened_clause (held.literals_at m k) (held.kept_at m k)))
+pub value_weakened : (m n : Store) (e : EngineView) (k : ℕ) (entries : List TrailEntry) (vars : ℕ) (r : Result (Unit {0}) StoreFault) → engine_of m entries vars ≡ e → IfOk r (λ _. n ≡ insert m k (held.weakened_entry (held.literals_at m k) (held.kept_at m k)))
     → IfOk r (λ _. engine_of n entries vars ≡ with_clauses e (insert e.clauses k (weakened_clause (seen.literals_at e.clauses k))))
 value_weakened m n e k entries vars (Ok u) v ok =
     (λ i. record { clauses = clauses_of-weakened m n k ok i; trail = entries; vars = vars }) ∙ ap (λ z. with_clauses z (insert z.clauses k (weakened_clause (seen.literals_at z.clauses k)))) v
@@ -346,7 +346,7 @@ value_weakened m n e k entries vars (Err f) v ok = ok
 -- ---- A clause restored
 
 pub clauses_of-restored : (m n : Store) (k : ℕ) (r : held.IsRestored m k n) → clauses_of n ≡ insert (clauses_of m) k (record { literals = seen.literals_at (clauses_of m) k; slot = Some r.slot })
-clauses_of-restored m n k r = ap clauses_of r.changed ∙ clauses_of-insert m k (held.active_clause (held.literals_at m k) r.lits r.slot) ∙ ap (λ z. insert (clauses_of m) k (record { literals = z; slot = Some r.slot })) (sym (literals_seen m k))
+clauses_of-restored m n k r = ap clauses_of r.changed ∙ clauses_of-insert m k (held.active_entry (held.literals_at m k) r.lits r.slot) ∙ ap (λ z. insert (clauses_of m) k (record { literals = z; slot = Some r.slot })) (sym (literals_seen m k))
 
 pub value_back : (m n : Store) (e : EngineView) (k : ℕ) (entries : List TrailEntry) (vars : ℕ) → engine_of m entries vars ≡ e → held.IsRestored m k n → IsRestored e k (engine_of n entries vars)
 value_back m n e k entries vars v ok = subst (λ z. IsRestored z k (engine_of n entries vars)) v (record {

@@ -173,7 +173,7 @@ pub heads_removed : (m n : Store) (ts : List ℕ) (h s : ℕ) (ids : List ℕ) (
 heads_removed m n ts h s ids id e k = let x = same_remove m n id e in
     heads_fewer m n ts h s ids id x.slots x.lists (subst (λ z. slot_at z id ≡ None) (sym e) (rw (get-remove nat_cmp_total, ties id) refl)) k
 
-pub heads_weakened : (m n : Store) (ts : List ℕ) (h s : ℕ) (ids : List ℕ) (id : ℕ) → n ≡ insert m id (held.weakened_clause (held.literals_at m id) (held.kept_at m id)) → AreHeads m ts h ids s → AreHeads n ts h ids s
+pub heads_weakened : (m n : Store) (ts : List ℕ) (h s : ℕ) (ids : List ℕ) (id : ℕ) → n ≡ insert m id (held.weakened_entry (held.literals_at m id) (held.kept_at m id)) → AreHeads m ts h ids s → AreHeads n ts h ids s
 heads_weakened m n ts h s ids id e k = let x = same_insert m n id _ e in
     heads_fewer m n ts h s ids id x.slots x.lists (subst (λ z. slot_at z id ≡ None) (sym e) (rw (get-insert nat_cmp_total, ties id) refl)) k
 

@@ -282,7 +282,7 @@ inside_deleted w v a head ids pending_head levels room e id (Ok u) h is level no
 inside_deleted w v a head ids pending_head levels room e id (Err f) h is level none gone err wide = subst (λ z. IsEngineInside z a head ids pending_head levels room) (sym err.1) h
 
 pub inside_weakened : (w v : Watched) (a : Assigned) (head : ℕ) (ids : List ℕ) (pending_head : ℕ) (levels : List Heads) (room : ℕ) (e : EngineView) (id : ℕ) (r : Result (Unit {0}) StoreFault) → IsEngineInside w a head ids pending_head levels room
-    → engine_of w.clauses a.entries a.vars ≡ e → level_after e.trail ≡ 0 → IsNoReason e id → IfOk r (λ _. v.clauses ≡ insert w.clauses id (held.weakened_clause (held.literals_at w.clauses id) (held.kept_at w.clauses id))) → IfOk r (λ _. IsTrue (is_active w.clauses id))
+    → engine_of w.clauses a.entries a.vars ≡ e → level_after e.trail ≡ 0 → IsNoReason e id → IfOk r (λ _. v.clauses ≡ insert w.clauses id (held.weakened_entry (held.literals_at w.clauses id) (held.kept_at w.clauses id))) → IfOk r (λ _. IsTrue (is_active w.clauses id))
     → IfErr r (λ _. v ≡ w) → length v.lists ≡ length w.lists → IsEngineInside v a head ids pending_head levels room
 inside_weakened w v a head ids pending_head levels room e id (Ok u) h is level none gone on err wide =
     let at = clauses_of-weakened w.clauses v.clauses id gone in

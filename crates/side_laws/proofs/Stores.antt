@@ -76,11 +76,11 @@ store_added m n id s c e = changes-insert kept_of_held m n id (store.new_clause 
 pub store_deleted : (m n : Store) (id : ℕ) → n ≡ finmap.remove m id → ChangesAt (clauses_of_store m) (clauses_of_store n) id None
 store_deleted m n id e = changes-remove kept_of_held m n id e
 
-pub store_weakened : (m n : Store) (id : ℕ) (ls : List ℕ) (s : ℕ) → n ≡ finmap.insert m id (store.weakened_clause ls s) → ChangesAt (clauses_of_store m) (clauses_of_store n) id (Some (kept false ls))
-store_weakened m n id ls s e = changes-insert kept_of_held m n id (store.weakened_clause ls s) e
+pub store_weakened : (m n : Store) (id : ℕ) (ls : List ℕ) (s : ℕ) → n ≡ finmap.insert m id (store.weakened_entry ls s) → ChangesAt (clauses_of_store m) (clauses_of_store n) id (Some (kept false ls))
+store_weakened m n id ls s e = changes-insert kept_of_held m n id (store.weakened_entry ls s) e
 
 pub store_restored : (m n : Store) (id : ℕ) → store.IsRestored m id n → ChangesAt (clauses_of_store m) (clauses_of_store n) id (Some (kept true (literals_at m id)))
-store_restored m n id r = changes-insert kept_of_held m n id (store.active_clause (literals_at m id) r.lits r.slot) r.changed
+store_restored m n id r = changes-insert kept_of_held m n id (store.active_entry (literals_at m id) r.lits r.slot) r.changed
 
 -- the active clauses by id are those that the hint rule takes
 pub active_in-store : (m : Store) (id : ℕ) → option_and_then (λ (h : ClauseEntry). if is_some h.place then Some h.literals else None) (get m id) ≡ active_in (clauses_of_store m) id

@@ -5,7 +5,7 @@ use Rattle.std.proofs.lemmas.Option.{same_Some, none-some}
 use Rattle.std.proofs.lemmas.Bool.{cases_Bool, both_ways, and_parts}
 use Rattle.std.specs.FinMap.{get, insert, remove}
 use Rattle.lits.specs.Clause.{has, set_of}
-use Rattle.clause_store.specs.Clauses.{ClauseEntry, Store, IsOnce, IsStore, IsRestored, is_weakened, slot_at, kept_at, place_at, lits_at, literals_at, active_clause, weakened_clause}
+use Rattle.clause_store.specs.Clauses.{ClauseEntry, Store, IsOnce, IsStore, IsRestored, is_weakened, slot_at, kept_at, place_at, lits_at, literals_at, active_entry, weakened_entry}
 use Rattle.clause_store.proofs.Stored.{get_cut, set_of_set}
 use Rattle.watch_lists.specs.Watch.{node_at}
 use Rattle.watch_lists.specs.Watched.{entry_at}
@@ -171,10 +171,10 @@ module _ (m n : Store) (id s : ℕ) (b : Beside m n id s) where
 
 pub beside-put : (m n : Store) (id s : ℕ) (set ls : List ℕ) → IsStore m → Puts m n id s set ls → Beside n m id s
 beside-put m n id s set ls st p = record {
-  stored = subst IsStore (sym p.is) (store-with m id (active_clause set ls s) st (subst (λ z. set_of z ≡ z) p.same_set (set_of_set ls))
+  stored = subst IsStore (sym p.is) (store-with m id (active_entry set ls s) st (subst (λ z. set_of z ≡ z) p.same_set (set_of_set ls))
       (λ q e. let is : record { slot = s; lits = ls; one = None; two = None } ≡ q = same_Some _ q e in (ap (λ z. set_of z.lits) (sym is) ∙ p.same_set, subst (λ z. IsOnce z.lits) is p.once, λ a d h. p.fresh a (h ∙ ap (λ z. Some z.slot) (sym is)))));
   stored_less = st;
-  others = λ q d. sym (ap (λ z. place_at z q) p.is ∙ place-put m id (active_clause set ls s) q ∙ ap (λ c. cond c (active_clause set ls s).place (place_at m q)) d);
+  others = λ q d. sym (ap (λ z. place_at z q) p.is ∙ place-put m id (active_entry set ls s) q ∙ ap (λ c. cond c (active_entry set ls s).place (place_at m q)) d);
   none = p.before;
   slot = slot-put m n id s set ls p.is;
 }
@@ -224,7 +224,7 @@ pub put-lits : (m n : Store) (id s l : ℕ) (set ls : List ℕ) → IsStore m �
 put-lits m n id s l set ls st p =
     let b = beside-put m n id s set ls st p in
     let slot : slot_at n id ≡ Some s = b.slot in
-    ap (λ q. has (lits_at n q) l) (id_at-is n id s b.stored slot) ∙ lits-literals n id s l b.stored slot ∙ ap (λ z. has z l) (put-here m n id (active_clause set ls s) p.is id (eq-eqb id id refl))
+    ap (λ q. has (lits_at n q) l) (id_at-is n id s b.stored slot) ∙ lits-literals n id s l b.stored slot ∙ ap (λ z. has z l) (put-here m n id (active_entry set ls s) p.is id (eq-eqb id id refl))
 
 -- what is known when a clause was put and room was made
 pub record Adds (m n : Store) (rows new : List RowView) (places places' : List ℕ) (id s : ℕ) (set ls : List ℕ) : Type 0 where
@@ -242,15 +242,15 @@ kept_added m n rows new places places' id s set ls a =
     let none : AreRaised [] rows new = record { long = r.long; watches = r.watches; counts = r.counts; more = λ l h. absurd (both_ways false refl h) } in
     let before : AreKept nobody m new places' = kept_raised m rows new places places' a.kept none a.longer a.same in
     kept_more n m id s (beside-put m n id s set ls a.kept.stored a.puts) new places' before
-    (put-reserved m n id (active_clause set ls s) a.puts.is (length new) (λ l h. subst (λ z. l < z) (sym r.long) (a.within l h)) (λ q l h. subst (λ z. l < z) (sym r.long) (a.kept.reserved q l h)))
-    a.fits (places-put m n id (active_clause set ls s) (length places') a.puts.is a.fits before.keeps)
-    (λ l. put-room m n id (active_clause set ls s) a.puts.is l (count_at rows l) (count_at new l) (r.counts l) (λ h. r.more l (put-lits m n id s l set ls a.kept.stored a.puts ∙ h)) (a.kept.rooms l))
+    (put-reserved m n id (active_entry set ls s) a.puts.is (length new) (λ l h. subst (λ z. l < z) (sym r.long) (a.within l h)) (λ q l h. subst (λ z. l < z) (sym r.long) (a.kept.reserved q l h)))
+    a.fits (places-put m n id (active_entry set ls s) (length places') a.puts.is a.fits before.keeps)
+    (λ l. put-room m n id (active_entry set ls s) a.puts.is l (count_at rows l) (count_at new l) (r.counts l) (λ h. r.more l (put-lits m n id s l set ls a.kept.stored a.puts ∙ h)) (a.kept.rooms l))
 
 -- a clause that was weakened has room
 pub kept_restored : (m n : Store) (rows : List RowView) (places : List ℕ) (id s : ℕ) (ls : List ℕ) → AreKept nobody m rows places → Puts m n id s (literals_at m id) ls → node_at s 1 < length places → AreKept (nat_eq s) n rows places
 kept_restored m n rows places id s ls k p fits =
-    let sets : (q : ℕ) → literals_at n q ≡ literals_at m q = put-same m n id (active_clause (literals_at m id) ls s) p.is refl in
-    kept_more n m id s (beside-put m n id s (literals_at m id) ls k.stored p) rows places k (λ q l h. k.reserved q l (subst (λ z. has z l ≡ true) (sets q) h)) fits (places-put m n id (active_clause (literals_at m id) ls s) (length places) p.is fits k.keeps) (λ l. room_same m n l (count_at rows l) sets (k.rooms l))
+    let sets : (q : ℕ) → literals_at n q ≡ literals_at m q = put-same m n id (active_entry (literals_at m id) ls s) p.is refl in
+    kept_more n m id s (beside-put m n id s (literals_at m id) ls k.stored p) rows places k (λ q l h. k.reserved q l (subst (λ z. has z l ≡ true) (sets q) h)) fits (places-put m n id (active_entry (literals_at m id) ls s) (length places) p.is fits k.keeps) (λ l. room_same m n l (count_at rows l) sets (k.rooms l))
 
 -- the same where its slot is found by its id
 pub kept_back : (m n : Store) (rows : List RowView) (places : List ℕ) (id s : ℕ) → AreKept nobody m rows places → IsRestored m id n → is_weakened m id ≡ true → slot_at n id ≡ Some s → AreKept (nat_eq s) n rows places
@@ -261,22 +261,22 @@ kept_back m n rows places id s k r w e =
 
 -- ---- A clause leaves
 
-pub beside-weakened : (m n : Store) (id s : ℕ) → IsStore m → slot_at m id ≡ Some s → n ≡ insert m id (weakened_clause (literals_at m id) (kept_at m id)) → Beside m n id s
+pub beside-weakened : (m n : Store) (id s : ℕ) → IsStore m → slot_at m id ≡ Some s → n ≡ insert m id (weakened_entry (literals_at m id) (kept_at m id)) → Beside m n id s
 beside-weakened m n id s st e is =
     let a = active m id s e in
     let same : literals_at m id ≡ a.h.literals = ap (λ o. unwrap_or (option_map (λ h. h.literals) o) []) a.is in record {
       stored = st;
-      stored_less = subst IsStore (sym is) (store-with m id (weakened_clause (literals_at m id) (kept_at m id)) st (subst (λ z. set_of z ≡ z) (sym same) (st.sets id a.h a.is)) (λ p f. absurd (none-some p f)));
-      others = λ q d. ap (λ z. place_at z q) is ∙ place-put m id (weakened_clause (literals_at m id) (kept_at m id)) q ∙ ap (λ c. cond c None (place_at m q)) d;
-      none = ap (λ z. slot_at z id) is ∙ ap (option_map (λ p. p.slot)) (place-put m id (weakened_clause (literals_at m id) (kept_at m id)) id ∙ ap (λ c. cond c None (place_at m id)) (eq-eqb id id refl));
+      stored_less = subst IsStore (sym is) (store-with m id (weakened_entry (literals_at m id) (kept_at m id)) st (subst (λ z. set_of z ≡ z) (sym same) (st.sets id a.h a.is)) (λ p f. absurd (none-some p f)));
+      others = λ q d. ap (λ z. place_at z q) is ∙ place-put m id (weakened_entry (literals_at m id) (kept_at m id)) q ∙ ap (λ c. cond c None (place_at m q)) d;
+      none = ap (λ z. slot_at z id) is ∙ ap (option_map (λ p. p.slot)) (place-put m id (weakened_entry (literals_at m id) (kept_at m id)) id ∙ ap (λ c. cond c None (place_at m id)) (eq-eqb id id refl));
       slot = e;
     }
 
-pub kept_weakened : (m n : Store) (rows : List RowView) (places : List ℕ) (id s : ℕ) → IsStore m → slot_at m id ≡ Some s → n ≡ insert m id (weakened_clause (literals_at m id) (kept_at m id)) → AreKept (nat_eq s) m rows places → AreKept nobody n rows places
+pub kept_weakened : (m n : Store) (rows : List RowView) (places : List ℕ) (id s : ℕ) → IsStore m → slot_at m id ≡ Some s → n ≡ insert m id (weakened_entry (literals_at m id) (kept_at m id)) → AreKept (nat_eq s) m rows places → AreKept nobody n rows places
 kept_weakened m n rows places id s st e is k =
-    let sets : (q : ℕ) → literals_at n q ≡ literals_at m q = put-same m n id (weakened_clause (literals_at m id) (kept_at m id)) is refl in
+    let sets : (q : ℕ) → literals_at n q ≡ literals_at m q = put-same m n id (weakened_entry (literals_at m id) (kept_at m id)) is refl in
     kept_less m n id s (beside-weakened m n id s st e is) rows places k (λ q l h. subst (λ z. has z l ≡ true) (sets q) h)
-    (places-put m n id (weakened_clause (literals_at m id) (kept_at m id)) (length places) is (k.keeps id (held-active m id s e)) k.keeps) (λ l. room_same m n l (count_at rows l) sets (k.rooms l))
+    (places-put m n id (weakened_entry (literals_at m id) (kept_at m id)) (length places) is (k.keeps id (held-active m id s e)) k.keeps) (λ l. room_same m n l (count_at rows l) sets (k.rooms l))
 
 place-cut : (m : Store) (id q : ℕ) → place_at (remove m id) q ≡ cond (nat_eq id q) None (place_at m q)
 place-cut m id q = ap (option_and_then (λ z. z.place)) (get_cut m id q) ∙ by_case (nat_eq id q)

@@ -9,7 +9,7 @@ use Rattle.std.specs.Cmp.{unsigned_tied}
 use Rattle.std.specs.FinMap.{get, insert, remove, keys, contains_key-keys}
 use Rattle.lits.specs.Clause.{has, set_of}
 use Rattle.lits.proofs.Ascending.{has-set_of}
-use Rattle.clause_store.specs.Clauses.{ClauseEntry, Place, Store, IsOnce, IsStore, slot_at, place_at, lits_at, literals_at, clause_at, weakened_clause, swapped, with_place, with_swap}
+use Rattle.clause_store.specs.Clauses.{ClauseEntry, Place, Store, IsOnce, IsStore, slot_at, place_at, lits_at, literals_at, clause_at, weakened_entry, swapped, with_place, with_swap}
 use Rattle.clause_store.proofs.Stored.{get_put, get_cut}
 use Rattle.clause_store.proofs.Changed.{swap-set, swap-once}
 use Rattle.watch_lists.specs.Lists.{has_slot, id_among, id_at}
@@ -76,7 +76,7 @@ place-changed m id f q = ap (option_and_then (λ h. h.place)) (get_put m id (wit
   | inr n ↦ rw n refl
 ]
   where
-    held : (o : Option ClauseEntry) → option_map f (unwrap_or o (weakened_clause [] 0)).place ≡ option_map f (option_and_then (λ h. h.place) o)
+    held : (o : Option ClauseEntry) → option_map f (unwrap_or o (weakened_entry [] 0)).place ≡ option_map f (option_and_then (λ h. h.place) o)
     held None = refl
     held (Some h) = refl
 
@@ -151,7 +151,7 @@ pub store-placed : (m : Store) (id s : ℕ) (f : Place → Place) → IsStore m 
     → ((p : Place) → place_at m id ≡ Some p → IsOnce p.lits → IsOnce (f p).lits) → IsStore (insert m id (with_place f (clause_at m id)))
 store-placed m id s f st e slots sets onces =
     let a = active m id s e in
-    let c : clause_at m id ≡ a.h = ap (λ o. unwrap_or o (weakened_clause [] 0)) a.is in
+    let c : clause_at m id ≡ a.h = ap (λ o. unwrap_or o (weakened_entry [] 0)) a.is in
     let place : place_at m id ≡ Some a.p = ap (option_and_then (λ h. h.place)) a.is ∙ a.place in
     let old = st.same_literals id a.h a.p a.is a.place in
     subst (λ z. IsStore (insert m id (with_place f z))) (sym c) (store-with m id (with_place f a.h) st (st.sets id a.h a.is) (λ p g.

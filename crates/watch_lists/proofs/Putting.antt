@@ -8,7 +8,7 @@ use Rattle.watch_lists.specs.Watch.{node_at}
 use Rattle.std.proofs.lemmas.Bool.{ltb-true, lt-ltb, cases_Bool, both_ways, and_parts}
 use Rattle.std.specs.FinMap.{get, insert, remove}
 use Rattle.lits.specs.Clause.{has, set_of}
-use Rattle.clause_store.specs.Clauses.{ClauseEntry, Store, IsOnce, IsFresh, IsRestored, slot_at, kept_at, clause_at, weakened_clause, place_at, literals_at, is_held, is_active, is_weakened, firsts, active_clause, new_clause}
+use Rattle.clause_store.specs.Clauses.{ClauseEntry, Store, IsOnce, IsFresh, IsRestored, slot_at, kept_at, clause_at, weakened_entry, place_at, literals_at, is_held, is_active, is_weakened, firsts, active_entry, new_clause}
 use Rattle.clause_store.proofs.Stored.{get_put, get_cut, same}
 use Rattle.clause_store.proofs.Lists.{set_of-firsts, once-firsts}
 
@@ -67,13 +67,13 @@ held-active m id s = by_case (get m id)
 pub slot-of-clause : (m : Store) (id : ℕ) → (clause_at m id).slot ≡ kept_at m id
 slot-of-clause m id = by_case (get m id)
   where
-    by_case : (o : Option ClauseEntry) → (unwrap_or o (weakened_clause [] 0)).slot ≡ unwrap_or (option_map (λ h. h.slot) o) 0
+    by_case : (o : Option ClauseEntry) → (unwrap_or o (weakened_entry [] 0)).slot ≡ unwrap_or (option_map (λ h. h.slot) o) 0
     by_case None = refl
     by_case (Some h) = refl
 
 -- an active clause put at an id that isn't active
 pub record Puts (m n : Store) (id s : ℕ) (set ls : List ℕ) : Type 0 where
-  pub is : n ≡ insert m id (active_clause set ls s)
+  pub is : n ≡ insert m id (active_entry set ls s)
   pub fresh : IsFresh m s
   pub before : slot_at m id ≡ None
   pub once : IsOnce ls
@@ -118,5 +118,5 @@ below_all ls n m e = (
   λ h. all_from (λ l. nat_lt l n) ls (λ l q. lt-ltb l n (subst (λ z. l < z) (sym e) (h l (has_from ls l q)))),
 )
 
-pub slot-put : (m n : Store) (id s : ℕ) (set ls : List ℕ) → n ≡ insert m id (active_clause set ls s) → slot_at n id ≡ Some s
-slot-put m n id s set ls e = ap (λ z. slot_at z id) e ∙ ap (option_map (λ p. p.slot)) (place-put m id (active_clause set ls s) id ∙ ap (λ b. cond b (active_clause set ls s).place (place_at m id)) (eq-eqb id id refl))
+pub slot-put : (m n : Store) (id s : ℕ) (set ls : List ℕ) → n ≡ insert m id (active_entry set ls s) → slot_at n id ≡ Some s
+slot-put m n id s set ls e = ap (λ z. slot_at z id) e ∙ ap (option_map (λ p. p.slot)) (place-put m id (active_entry set ls s) id ∙ ap (λ b. cond b (active_entry set ls s).place (place_at m id)) (eq-eqb id id refl))

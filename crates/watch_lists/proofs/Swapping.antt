@@ -5,7 +5,7 @@ use Rattle.std.specs.List.{swap}
 use Rattle.std.proofs.lemmas.List.Edits.{swapped_from_swap}
 use Rattle.std.proofs.lemmas.Bool.{cases_Bool}
 use Rattle.std.specs.FinMap.{get}
-use Rattle.clause_store.specs.Clauses.{ClauseEntry, Place, Store, slot_at, place_at, lits_at, literals_at, clause_at, weakened_clause, swapped, with_place, with_swap}
+use Rattle.clause_store.specs.Clauses.{ClauseEntry, Place, Store, slot_at, place_at, lits_at, literals_at, clause_at, weakened_entry, swapped, with_place, with_swap}
 use Rattle.clause_store.proofs.Stored.{get_put}
 use Rattle.watch_lists.proofs.Placed.{place-changed, place-kept}
 
@@ -26,7 +26,7 @@ swap-literals m id a b q = ap (λ o. unwrap_or (option_map (λ h. h.literals) o)
   | inr n ↦ rw n refl
 ]
   where
-    held : (o : Option ClauseEntry) → (unwrap_or o (weakened_clause [] 0)).literals ≡ unwrap_or (option_map (λ h. h.literals) o) []
+    held : (o : Option ClauseEntry) → (unwrap_or o (weakened_entry [] 0)).literals ≡ unwrap_or (option_map (λ h. h.literals) o) []
     held None = refl
     held (Some h) = refl
 

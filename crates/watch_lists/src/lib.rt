@@ -17,7 +17,7 @@
 ghost use Rattle.std.specs.Prelude.{◌≡◌, ℕ, ◌*◌, ◌-◌, ◌<◌, ◌≤◌, ◌↔◌, [], length, take, IsOk, OnOk, OnErr, IfOk, IfErr, IfSome, IfNone, IsTrue, true, false, Some, None};
 ghost use Rattle.std.specs.FinMap as finmap;
 ghost use Rattle.lits.specs.Clause.{has};
-ghost use Rattle.clause_store.specs.Clauses.{slot_at, lits_at, literals_at, kept_at, is_active, is_weakened, is_held, new_clause, weakened_clause, with_swap, IsSlot, IsFresh, IsRestored, IsActiveWith, IsWeakenedWith};
+ghost use Rattle.clause_store.specs.Clauses.{slot_at, lits_at, literals_at, kept_at, is_active, is_weakened, is_held, new_clause, weakened_entry, with_swap, IsSlot, IsFresh, IsRestored, IsActiveWith, IsWeakenedWith};
 ghost use Rattle.clause_store.specs.declared.StoreFault.TheVariants as fault;
 ghost use Rattle.watch_lists.specs.Watched.{IsWatched, AreReserved, list_at, watch_at, reserved, blocked};
 
@@ -33,7 +33,7 @@ mod row;
 mod tests;
 mod watch;
 
-use crate::row::Row;
+use crate::lists::WatchTable;
 pub use crate::watch::Watch;
 
 /// The clauses and their lists. Contracts see the clauses as those of a store, and for each literal of a reserved variable
@@ -41,10 +41,7 @@ pub use crate::watch::Watch;
 #[derive(Drop)]
 pub struct Watches {
     store: Store,
-    // for each literal by its code
-    rows: Vec<Row>,
-    // where each entry stands in its list, by the entry's number
-    places: Vec<u32>,
+    table: WatchTable,
     vars: u32,
 }
 
@@ -57,9 +54,9 @@ impl Model for Watches {
 
     ghost use Rattle.watch_lists.specs.Lists.{seen, AreWatchesInside};
 
-    ghost view = { λ w. seen w.store w.rows.items };
+    ghost view = { λ w. seen w.store w.table.rows.items };
 
-    ghost invariant = { λ w. AreWatchesInside w.store w.rows.items w.places.items w.vars };
+    ghost invariant = { λ w. AreWatchesInside w.store w.table.rows.items w.table.places.items w.vars };
 }
 
 impl Watches {
@@ -70,8 +67,7 @@ impl Watches {
     {
         Watches {
             store: Store::new(alloc),
-            rows: Vec::new(alloc),
-            places: Vec::new(alloc),
+            table: WatchTable::new(alloc),
             vars: 0,
         }
     }
@@ -85,7 +81,7 @@ impl Watches {
         ensures stays { 2 * vars ≤ length self.old.lists → self.new ≡ self.old }
     {
         if vars > self.vars {
-            lists::widen(&mut self.rows, 2 * vars as usize)?;
+            lists::widen(&mut self.table.rows, 2 * vars as usize)?;
             self.vars = vars;
         }
         Ok(())
@@ -102,14 +98,14 @@ impl Watches {
     pub fn is_reserved(&self, l: Lit) -> bool
         ensures { IsTrue result ↔ (l < length self.now.lists) }
     {
-        (l.code() as usize) < self.rows.len()
+        (l.code() as usize) < self.table.rows.len()
     }
 
     /// Whether the variables of all these literals are reserved.
     pub fn are_reserved(&self, lits: &[Lit]) -> bool
         ensures { IsTrue result ↔ AreReserved self.now lits.now }
     {
-        lists::are_below(lits, self.rows.len())
+        lists::are_below(lits, self.table.rows.len())
     }
 
     /// Adds an active clause, as the store does, and puts it into the lists of the first two literals of its list, if it has
@@ -129,11 +125,11 @@ impl Watches {
             Ok(slot) => slot,
             Err(fault) => return Err(fault),
         };
-        if lists::make_room(&self.store, &mut self.rows, &mut self.places, slot).is_err() {
+        if self.table.make_room(&self.store, slot).is_err() {
             let _ = self.store.delete(id);
             return Err(StoreFault::Memory);
         }
-        lists::enter(&self.store, &mut self.rows, &mut self.places, slot);
+        self.table.enter(&self.store, slot);
         Ok(slot)
     }
 
@@ -150,9 +146,9 @@ impl Watches {
         let Some(slot) = self.store.find(id) else {
             return Err(StoreFault::NotActive);
         };
-        let sides = lists::sides_of(&self.store, &self.places, slot);
-        lists::part(&mut self.rows, &mut self.places, sides);
-        lists::lower(&mut self.rows, self.store.lits(slot));
+        let sides = self.table.sides_of(&self.store, slot);
+        self.table.part(sides);
+        lists::lower(&mut self.table.rows, self.store.lits(slot));
         let _ = self.store.delete(id);
         Ok(())
     }
@@ -160,7 +156,7 @@ impl Watches {
     /// Makes an active clause a weakened one, and takes its slot out of its lists. NotActive comes exactly where the id
     /// isn't active; all stays after each refusal.
     pub fn weaken(&mut self, id: u64) -> Result<(), StoreFault>
-        ensures ok { IfOk result (λ _. self.new.clauses ≡ finmap.insert self.old.clauses id (weakened_clause (literals_at self.old.clauses id) (kept_at self.old.clauses id))) }
+        ensures ok { IfOk result (λ _. self.new.clauses ≡ finmap.insert self.old.clauses id (weakened_entry (literals_at self.old.clauses id) (kept_at self.old.clauses id))) }
         ensures active { IfOk result (λ _. IsTrue (is_active self.old.clauses id)) }
         ensures err { IfErr result (λ _. self.new ≡ self.old) }
         ensures inactive { IfErr result (λ e. is_active self.old.clauses id ≡ false → e ≡ fault.NotActive) }
@@ -171,11 +167,11 @@ impl Watches {
         let Some(slot) = self.store.find(id) else {
             return Err(StoreFault::NotActive);
         };
-        let sides = lists::sides_of(&self.store, &self.places, slot);
+        let sides = self.table.sides_of(&self.store, slot);
         if let Err(fault) = self.store.weaken(id) {
             return Err(fault);
         }
-        lists::part(&mut self.rows, &mut self.places, sides);
+        self.table.part(sides);
         Ok(())
     }
 
@@ -194,7 +190,7 @@ impl Watches {
             return Err(fault);
         }
         if let Some(slot) = self.store.find(id) {
-            lists::enter(&self.store, &mut self.rows, &mut self.places, slot);
+            self.table.enter(&self.store, slot);
         }
         Ok(())
     }
@@ -206,7 +202,7 @@ impl Watches {
         ensures list { result.now ≡ list_at self.now.lists l }
         ensures sound { IsWatched self.now }
     {
-        self.rows[l.code() as usize].list()
+        self.table.rows[l.code() as usize].list()
     }
 
     /// Gives an entry of a literal's list another literal of its clause as its blocker.
@@ -218,7 +214,7 @@ impl Watches {
         ensures front { take i (list_at self.new.lists l) ≡ take i (list_at self.old.lists l) }
         ensures sound { IsWatched self.new }
     {
-        let row = &mut self.rows[l.code() as usize];
+        let row = &mut self.table.rows[l.code() as usize];
         let watch = row.list()[i];
         row.set(i, watch.with_blocker(blocker));
     }
@@ -235,7 +231,7 @@ impl Watches {
         ensures wide { length self.new.lists ≡ length self.old.lists }
         ensures sound { IsWatched self.new }
     {
-        lists::move_watch(&mut self.store, &mut self.rows, &mut self.places, l, i, k);
+        self.table.move_watch(&mut self.store, l, i, k);
     }
 
     /// Exchanges the first or the second literal of an active clause's list for a later one, at places counted from 0. The
@@ -250,8 +246,8 @@ impl Watches {
         ensures sound { IsWatched self.new }
     {
         let l = self.store.at(s, place);
-        let i = self.places[2 * s.number() as usize + place] as usize;
-        lists::move_watch(&mut self.store, &mut self.rows, &mut self.places, l, i, k);
+        let i = self.table.places[2 * s.number() as usize + place] as usize;
+        self.table.move_watch(&mut self.store, l, i, k);
     }
 
     /// The slot of an active clause; None exactly where the id isn't active.

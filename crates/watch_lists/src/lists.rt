@@ -14,7 +14,16 @@ use crate::row::Row;
 use crate::watch::Watch;
 use clause_store::{Slot, Store};
 use lits::Lit;
-use std::alloc::AllocError;
+use std::alloc::{AllocError, Global};
+
+/// The lists, and where each entry stands in its own.
+#[derive(Drop)]
+pub(crate) struct WatchTable {
+    // for each literal by its code
+    pub(crate) rows: Vec<Row>,
+    // by the entry's number
+    pub(crate) places: Vec<u32>,
+}
 
 /// The literals that a clause watches, and where its entries stand in their lists.
 #[derive(Clone, Copy)]
@@ -81,125 +90,126 @@ pub(crate) fn lower(rows: &mut Vec<Row>, lits: &[Lit])
     }
 }
 
-/// Puts an entry at the end of a literal's list, which has room for it.
-#[inline(always)]
-fn put(rows: &mut Vec<Row>, places: &mut Vec<u32>, l: Lit, watch: Watch)
-    requires reserved { l < length rows.old.items }
-    requires room { length (watches_at rows.old.items l) < count_at rows.old.items l }
-    requires place { node_of watch < length places.old.items }
-    ensures rows { rows.new.items ≡ slice_set rows.old.items l (with_watches (row_at rows.old.items l) (watches_at rows.old.items l ++ watch ∷ [])) }
-    ensures places { places.new.items ≡ put_places places.old.items (watches_at rows.old.items l) watch }
-{
-    let row = &mut rows[l.code() as usize];
-    places[watch.node()] = row.list().len() as u32;
-    row.push(watch);
-}
-
-/// Takes out the entry at a place of a literal's list, to which the last one comes.
-#[inline(always)]
-fn cut(rows: &mut Vec<Row>, places: &mut Vec<u32>, l: Lit, i: usize)
-    requires within { i < length (watches_at rows.old.items l) }
-    requires reserved { l < length rows.old.items }
-    requires few { length (watches_at rows.old.items l) ≤ count_at rows.old.items l }
-    requires places { (k : ℕ) → k < length (watches_at rows.old.items l) → node_of (entry_at (watches_at rows.old.items l) k) < length places.old.items }
-    ensures list { IsCut (watches_at rows.old.items l) (watches_at rows.new.items l) i }
-    ensures rows { IsRowChanged l rows.old.items rows.new.items }
-    ensures places { places.new.items ≡ cut_places places.old.items (watches_at rows.old.items l) i }
-{
-    let row = &mut rows[l.code() as usize];
-    if let Some(last) = row.cut(i) {
-        places[last.node()] = i as u32;
+impl WatchTable {
+    /// No list, and no place.
+    pub(crate) fn new(alloc: Global) -> WatchTable
+        ensures rows { result.rows.items ≡ [] }
+        ensures places { result.places.items ≡ [] }
+    {
+        WatchTable {
+            rows: Vec::new(alloc),
+            places: Vec::new(alloc),
+        }
     }
-}
 
-/// Makes room for the entries of the clause at a slot. After an error some of its literals have room all the same.
-pub(crate) fn make_room(
-    store: &Store,
-    rows: &mut Vec<Row>,
-    places: &mut Vec<u32>,
-    s: Slot,
-) -> Result<(), AllocError>
-    requires slot { slot_at store.now (id_at store.now s) ≡ Some s }
-    requires reserved { (l : ℕ) → has (lits_of store.now s) l ≡ true → l < length rows.old.items }
-    ensures raised { AreRaised [] rows.old.items rows.new.items }
-    ensures longer { length places.old.items ≤ length places.new.items }
-    ensures same { (n : ℕ) → n < length places.old.items → slice_index places.new.items n ≡ slice_index places.old.items n }
-    ensures room { OnOk result (AreRaised (lits_of store.now s) rows.old.items rows.new.items) }
-    ensures fits { OnOk result (node_at s 1 < length places.new.items) }
-{
-    lengthen(places, 2 * s.number() as usize + 2)?;
-    raise(rows, store.lits(s))
-}
-
-/// Puts both entries of a clause into their lists, if it has two literals or more.
-pub(crate) fn enter(store: &Store, rows: &mut Vec<Row>, places: &mut Vec<u32>, s: Slot)
-    requires kept { AreKept (nat_eq s) store.now rows.old.items places.old.items }
-    requires slot { slot_at store.now (id_at store.now s) ≡ Some s }
-    ensures kept { AreKept nobody store.now rows.new.items places.new.items }
-    ensures long { length rows.new.items ≡ length rows.old.items }
-{
-    if store.lits(s).len() < 2 {
-        return;
+    /// Puts an entry at the end of a literal's list, which has room for it.
+    #[inline(always)]
+    fn put(&mut self, l: Lit, watch: Watch)
+        requires reserved { l < length self.old.rows.items }
+        requires room { length (watches_at self.old.rows.items l) < count_at self.old.rows.items l }
+        requires place { node_of watch < length self.old.places.items }
+        ensures rows { self.new.rows.items ≡ slice_set self.old.rows.items l (with_watches (row_at self.old.rows.items l) (watches_at self.old.rows.items l ++ watch ∷ [])) }
+        ensures places { self.new.places.items ≡ put_places self.old.places.items (watches_at self.old.rows.items l) watch }
+    {
+        let row = &mut self.rows[l.code() as usize];
+        self.places[watch.node()] = row.list().len() as u32;
+        row.push(watch);
     }
-    let (one, two) = store.pair(s);
-    put(rows, places, one, Watch::new(s, 0, two));
-    put(rows, places, two, Watch::new(s, 1, one));
-}
 
-/// Where the entries of a clause stand; None where its list has fewer than two literals.
-pub(crate) fn sides_of(store: &Store, places: &Vec<u32>, s: Slot) -> Option<Sides>
-    requires slot { slot_at store.now (id_at store.now s) ≡ Some s }
-    requires room { node_at s 1 < length places.now.items }
-    ensures { result ≡ sides_in store.now places.now.items s }
-{
-    if store.lits(s).len() < 2 {
-        return None;
+    /// Takes out the entry at a place of a literal's list, to which the last one comes.
+    #[inline(always)]
+    fn cut(&mut self, l: Lit, i: usize)
+        requires within { i < length (watches_at self.old.rows.items l) }
+        requires reserved { l < length self.old.rows.items }
+        requires few { length (watches_at self.old.rows.items l) ≤ count_at self.old.rows.items l }
+        requires places { (k : ℕ) → k < length (watches_at self.old.rows.items l) → node_of (entry_at (watches_at self.old.rows.items l) k) < length self.old.places.items }
+        ensures list { IsCut (watches_at self.old.rows.items l) (watches_at self.new.rows.items l) i }
+        ensures rows { IsRowChanged l self.old.rows.items self.new.rows.items }
+        ensures places { self.new.places.items ≡ cut_places self.old.places.items (watches_at self.old.rows.items l) i }
+    {
+        let row = &mut self.rows[l.code() as usize];
+        if let Some(last) = row.cut(i) {
+            self.places[last.node()] = i as u32;
+        }
     }
-    let (one, two) = store.pair(s);
-    let node = 2 * s.number() as usize;
-    Some(Sides {
-        one,
-        one_at: places[node],
-        two,
-        two_at: places[node + 1],
-    })
-}
 
-/// Takes both entries of a clause out of their lists, which may have left the store since.
-pub(crate) fn part(rows: &mut Vec<Row>, places: &mut Vec<u32>, sides: Option<Sides>)
-    requires { (m : Clauses) × (s : ℕ) × CanPart m rows.old.items places.old.items s sides }
-    ensures kept { (m : Clauses) (s : ℕ) → CanPart m rows.old.items places.old.items s sides → AreKept (nat_eq s) m rows.new.items places.new.items }
-    ensures long { length rows.new.items ≡ length rows.old.items }
-{
-    if let Some(sides) = sides {
-        cut(rows, places, sides.one, sides.one_at as usize);
-        cut(rows, places, sides.two, sides.two_at as usize);
+    /// Makes room for the entries of the clause at a slot. After an error some of its literals have room all the same.
+    pub(crate) fn make_room(&mut self, store: &Store, s: Slot) -> Result<(), AllocError>
+        requires slot { slot_at store.now (id_at store.now s) ≡ Some s }
+        requires reserved { (l : ℕ) → has (lits_of store.now s) l ≡ true → l < length self.old.rows.items }
+        ensures raised { AreRaised [] self.old.rows.items self.new.rows.items }
+        ensures longer { length self.old.places.items ≤ length self.new.places.items }
+        ensures same { (n : ℕ) → n < length self.old.places.items → slice_index self.new.places.items n ≡ slice_index self.old.places.items n }
+        ensures room { OnOk result (AreRaised (lits_of store.now s) self.old.rows.items self.new.rows.items) }
+        ensures fits { OnOk result (node_at s 1 < length self.new.places.items) }
+    {
+        lengthen(&mut self.places, 2 * s.number() as usize + 2)?;
+        raise(&mut self.rows, store.lits(s))
     }
-}
 
-/// Exchanges the literal of an entry for a later one of its clause's list, and moves the entry from the list of the one to the
-/// end of that of the other. The other watch becomes its blocker.
-#[inline(always)]
-pub(crate) fn move_watch(
-    store: &mut Store,
-    rows: &mut Vec<Row>,
-    places: &mut Vec<u32>,
-    l: Lit,
-    i: usize,
-    k: usize,
-)
-    requires { CanMove store.old rows.old.items places.old.items l i k }
-    ensures exchanged { let e = entry_at (watches_at rows.old.items l) i in store.new ≡ with_swap store.old (id_at store.old e.slot) e.place k }
-    ensures kept { AreKept nobody store.new rows.new.items places.new.items }
-    ensures long { length rows.new.items ≡ length rows.old.items }
-    ensures front { take i (watches_at rows.new.items l) ≡ take i (watches_at rows.old.items l) }
-{
-    let watch = rows[l.code() as usize].list()[i];
-    let slot = watch.slot();
-    let place = watch.place();
-    let joined = store.at(slot, k);
-    let other = store.at(slot, 1 - place);
-    cut(rows, places, l, i);
-    store.swap(slot, place, k);
-    put(rows, places, joined, Watch::new(slot, place, other));
+    /// Puts both entries of a clause into their lists, if it has two literals or more.
+    pub(crate) fn enter(&mut self, store: &Store, s: Slot)
+        requires kept { AreKept (nat_eq s) store.now self.old.rows.items self.old.places.items }
+        requires slot { slot_at store.now (id_at store.now s) ≡ Some s }
+        ensures kept { AreKept nobody store.now self.new.rows.items self.new.places.items }
+        ensures long { length self.new.rows.items ≡ length self.old.rows.items }
+    {
+        if store.lits(s).len() < 2 {
+            return;
+        }
+        let (one, two) = store.pair(s);
+        self.put(one, Watch::new(s, 0, two));
+        self.put(two, Watch::new(s, 1, one));
+    }
+
+    /// Where the entries of a clause stand; None where its list has fewer than two literals.
+    pub(crate) fn sides_of(&self, store: &Store, s: Slot) -> Option<Sides>
+        requires slot { slot_at store.now (id_at store.now s) ≡ Some s }
+        requires room { node_at s 1 < length self.now.places.items }
+        ensures { result ≡ sides_in store.now self.now.places.items s }
+    {
+        if store.lits(s).len() < 2 {
+            return None;
+        }
+        let (one, two) = store.pair(s);
+        let node = 2 * s.number() as usize;
+        Some(Sides {
+            one,
+            one_at: self.places[node],
+            two,
+            two_at: self.places[node + 1],
+        })
+    }
+
+    /// Takes both entries of a clause out of their lists, which may have left the store since.
+    pub(crate) fn part(&mut self, sides: Option<Sides>)
+        requires { (m : Clauses) × (s : ℕ) × CanPart m self.old.rows.items self.old.places.items s sides }
+        ensures kept { (m : Clauses) (s : ℕ) → CanPart m self.old.rows.items self.old.places.items s sides → AreKept (nat_eq s) m self.new.rows.items self.new.places.items }
+        ensures long { length self.new.rows.items ≡ length self.old.rows.items }
+    {
+        if let Some(sides) = sides {
+            self.cut(sides.one, sides.one_at as usize);
+            self.cut(sides.two, sides.two_at as usize);
+        }
+    }
+
+    /// Exchanges the literal of an entry for a later one of its clause's list, and moves the entry from the list of the one to the
+    /// end of that of the other. The other watch becomes its blocker.
+    #[inline(always)]
+    pub(crate) fn move_watch(&mut self, store: &mut Store, l: Lit, i: usize, k: usize)
+        requires { CanMove store.old self.old.rows.items self.old.places.items l i k }
+        ensures exchanged { let e = entry_at (watches_at self.old.rows.items l) i in store.new ≡ with_swap store.old (id_at store.old e.slot) e.place k }
+        ensures kept { AreKept nobody store.new self.new.rows.items self.new.places.items }
+        ensures long { length self.new.rows.items ≡ length self.old.rows.items }
+        ensures front { take i (watches_at self.new.rows.items l) ≡ take i (watches_at self.old.rows.items l) }
+    {
+        let watch = self.rows[l.code() as usize].list()[i];
+        let slot = watch.slot();
+        let place = watch.place();
+        let joined = store.at(slot, k);
+        let other = store.at(slot, 1 - place);
+        self.cut(l, i);
+        store.swap(slot, place, k);
+        self.put(joined, Watch::new(slot, place, other));
+    }
 }

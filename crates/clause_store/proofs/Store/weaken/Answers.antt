@@ -2,7 +2,7 @@ use Rattle.std.proofs.Common.{◌≡◌, refl, sym, ap, ◌∙◌, true, false}
 use Rattle.std.specs.Prelude.{is_some, is_err}
 use Rattle.std.specs.FinMap.{insert}
 use Rattle.std.proofs.lemmas.Bool.{both_ways}
-use Rattle.clause_store.specs.Clauses.{is_active, weakened_clause, literals_at, kept_at}
+use Rattle.clause_store.specs.Clauses.{is_active, weakened_entry, literals_at, kept_at}
 use Rattle.clause_store.specs.Rows.{IsStoreInside, row, entry_of, noted}
 use Rattle.clause_store.proofs.Stored.{slot_at-row, found, Found, Switches, store-switched, all-switched, to-switched, from-switched, inside-same, inside-framed, store_same, on_err, on_ok, entry_live, literals_here, kept_here, within_noted}
 use Rattle.clause_store.proofs.Store.weaken.Goals as goal
@@ -67,9 +67,9 @@ returns-clause-ok c =
       put = on_ok c.set_weakened.result _ good c.set_weakened.ensures.put;
     } in
     let live = entry_live c.self.inside.pool c.self.inside.rows.clauses c.self.inside.noted.items c.args.id f.k c.self.invariant.rows f.is in
-    store-switched _ c.self.inside.pool _ _ _ _ _ _ _ _ _ _ _ h (λ t ne. refl) live.0 live.1 (ap (λ o. (entry_of o).lits) (sym live.1)) (weakened_clause (literals_at c.args.self.now c.args.id) (kept_at c.args.self.now c.args.id))
-    (λ i. weakened_clause (literals_here c.self.inside.pool c.self.inside.rows.clauses c.args.self.now c.args.id f.k live.0 c.self.view_is f.is live.1 i) (kept_here c.self.inside.pool c.self.inside.rows.clauses c.args.self.now c.args.id f.k c.self.view_is f.is i))
-    ∙ ap (λ m. insert m c.args.id (weakened_clause (literals_at c.args.self.now c.args.id) (kept_at c.args.self.now c.args.id))) c.self.view_is
+    store-switched _ c.self.inside.pool _ _ _ _ _ _ _ _ _ _ _ h (λ t ne. refl) live.0 live.1 (ap (λ o. (entry_of o).lits) (sym live.1)) (weakened_entry (literals_at c.args.self.now c.args.id) (kept_at c.args.self.now c.args.id))
+    (λ i. weakened_entry (literals_here c.self.inside.pool c.self.inside.rows.clauses c.args.self.now c.args.id f.k live.0 c.self.view_is f.is live.1 i) (kept_here c.self.inside.pool c.self.inside.rows.clauses c.args.self.now c.args.id f.k c.self.view_is f.is i))
+    ∙ ap (λ m. insert m c.args.id (weakened_entry (literals_at c.args.self.now c.args.id) (kept_at c.args.self.now c.args.id))) c.self.view_is
 
 pub returns-clause-active : goal.returns-clause-active
 returns-clause-active c =

@@ -12,7 +12,7 @@ use Rattle.watch_lists.proofs.Keeping.{kept_dropped}
 use Rattle.watch_lists.proofs.Watches.delete.Goals as goal
 
 pub returns-in_default-clause-sound : goal.returns-in_default-clause-sound
-returns-in_default-clause-sound c = sound_now c.self.inside.store c.self.inside.rows.items c.self.inside.places.items c.self.inside.vars c.args.self.now c.self.invariant c.self.view_is
+returns-in_default-clause-sound c = sound_now c.self.inside.store c.self.inside.table.rows.items c.self.inside.table.places.items c.self.inside.vars c.args.self.now c.self.invariant c.self.view_is
 
 pub sides_of-sides-requires-clause-slot : goal.sides_of-sides-requires-clause-slot
 sides_of-sides-requires-clause-slot c = id_at-slot c.self.inside.store c.args.id c.in-Some.slot (sym c.find.ensures.slot ∙ c.in-Some.is)
@@ -35,7 +35,7 @@ invariant_of-self c =
     let active : slot_at c.self.inside.store c.args.id ≡ Some c.in-Some.slot = sym c.find.ensures.slot ∙ c.in-Some.is in
     let is : c.delete.new.self ≡ remove c.self.inside.store c.args.id = ok_from c.delete.result _ _ c.delete.ensures.ok c.delete.ensures.inactive (λ e h. both_ways _ h (ap is_some active)) in
     record {
-      kept = kept_dropped c.self.inside.store c.delete.new.self c.part.new.rows.items c.lower.new.rows.items c.part.new.places.items c.args.id c.in-Some.slot c.lits.result.now (record {
+      kept = kept_dropped c.self.inside.store c.delete.new.self c.part.new.self.rows.items c.lower.new.rows.items c.part.new.self.places.items c.args.id c.in-Some.slot c.lits.result.now (record {
         stored = c.self.invariant.kept.stored;
         slot = active;
         is = is;
@@ -47,4 +47,4 @@ invariant_of-self c =
     }
 
 pub returns-clause-sound : goal.returns-clause-sound
-returns-clause-sound c = sound_new c.delete.new.self c.lower.new.rows.items c.part.new.places.items c.self.inside.vars (invariant_of-self c)
+returns-clause-sound c = sound_new c.delete.new.self c.lower.new.rows.items c.part.new.self.places.items c.self.inside.vars (invariant_of-self c)
