@@ -26,8 +26,7 @@ pub enum HeaderFault {
 // The words of the header of this name, to the line's end.
 fn header_words<S: Source>(window: &mut Window, src: &mut S, name: &[u8]) -> Result<(), LineFault>
     requires short { length name.now ≤ 32 }
-    ensures body {
-        let at = reader S.left S.faults in
+    ensures body { let at = reader S.left S.faults in
         BodyRead (header_line name.now) (at window.old src.old) (at window.new src.new) result }
     ensures memory { IsErrOf result LineFault.Memory → ⊥ }
 {
@@ -79,8 +78,7 @@ pub fn read_header<S: Source>(
     name: &[u8],
 ) -> Result<(), HeaderFault>
     requires short { length name.now ≤ 32 }
-    ensures {
-        let at = reader S.left S.faults in
+    ensures { let at = reader S.left S.faults in
         HeaderRead name.now (at window.old src.old) (at window.new src.new) result }
 {
     match window.next_line(src) {

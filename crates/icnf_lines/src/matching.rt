@@ -65,8 +65,7 @@ pub fn match_line<S: Source>(
 ) -> Result<Match, MatchFault>
     requires event { All (λ l. var l ≤ marks.old) (event_literals event.now) }
     requires assumed { All (λ l. var l ≤ marks.old) assumed.now }
-    ensures line {
-        let at = reader S.left S.faults in
+    ensures line { let at = reader S.left S.faults in
         LineMatched event.now assumed.now (at window.old src.old) (at window.new src.new) result }
     ensures marks { marks.new ≡ marks.old }
 {
@@ -113,10 +112,9 @@ fn partner_rule<S: Source>(
     requires event { All (HasPlace (length table.old)) (event_literals event.now) }
     requires assumed { All (HasPlace (length table.old)) assumed.now }
     requires blank { IsBlank table.old }
-    ensures rule {
-        let at = reader S.left S.faults in
+    ensures rule { let at = reader S.left S.faults in
         partners.BodyAnswers letter event.now assumed.now
-            (at window.old src.old) (at window.new src.new) result }
+        (at window.old src.old) (at window.new src.new) result }
     ensures blank { IsBlank table.new }
     ensures memory { IsErrOf result LineFault.Memory → ⊥ }
 {
@@ -174,10 +172,9 @@ fn literals_rule<S: Source>(
     requires event { All (HasPlace (length table.old)) (event_literals event.now) }
     requires assumed { All (HasPlace (length table.old)) assumed.now }
     requires blank { IsBlank table.old }
-    ensures rule {
-        let at = reader S.left S.faults in
+    ensures rule { let at = reader S.left S.faults in
         partners.BodyAnswers letter event.now assumed.now
-            (at window.old src.old) (at window.new src.new) result }
+        (at window.old src.old) (at window.new src.new) result }
     ensures blank { IsBlank table.new }
     ensures memory { IsErrOf result LineFault.Memory → ⊥ }
 {

@@ -50,8 +50,7 @@ fn pass_same(window: &mut Window, held: &[Lit], assumed: &[Lit]) -> bool
 
 /// Reads the end of a line whose literals are an event's, where nothing is assumed.
 fn meet_same<S: Source>(window: &mut Window, src: &mut S, held: &[Lit]) -> Result<Met, LineFault>
-    ensures met {
-        let at = reader S.left S.faults in
+    ensures met { let at = reader S.left S.faults in
         (start : Reader) → PartRead literal_list start (at window.old src.old) (Ok held.now)
         → partners.MeetsLiterals held.now [] start (at window.new src.new) result }
     ensures memory { IsErrOf result LineFault.Memory → ⊥ }
@@ -79,10 +78,9 @@ pub(crate) fn meet<S: Source>(
     requires held { All (HasPlace (length table.old)) held.now }
     requires assumed { All (HasPlace (length table.old)) assumed.now }
     requires blank { IsBlank table.old }
-    ensures met {
-        let at = reader S.left S.faults in
+    ensures met { let at = reader S.left S.faults in
         partners.MeetsLiterals held.now assumed.now
-            (at window.old src.old) (at window.new src.new) result }
+        (at window.old src.old) (at window.new src.new) result }
     ensures blank { IsBlank table.new }
     ensures memory { IsErrOf result LineFault.Memory → ⊥ }
 {
@@ -118,10 +116,9 @@ fn find_literals<S: Source>(
     src: &mut S,
     table: &mut [Mark],
 ) -> Result<Found, LineFault>
-    ensures found {
-        let at = reader S.left S.faults in
+    ensures found { let at = reader S.left S.faults in
         partners.FindsLiterals table.old table.new
-            (at window.old src.old) (at window.new src.new) result }
+        (at window.old src.old) (at window.new src.new) result }
     ensures kept { partners.KeepsBlank table.old table.new }
     ensures memory { IsErrOf result LineFault.Memory → ⊥ }
 {

@@ -17,8 +17,7 @@ pub fn read_event<S: Source>(
     src: &mut S,
     letter: Letter,
 ) -> Result<Event, LineFault>
-    ensures {
-        let at = reader S.left S.faults in
+    ensures { let at = reader S.left S.faults in
         BodyRead (event_at letter) (at window.old src.old) (at window.new src.new) result }
 {
     match letter {
@@ -46,8 +45,7 @@ pub fn read_line<S: Source>(
     window: &mut Window,
     src: &mut S,
 ) -> Result<Option<Event>, LineFault>
-    ensures {
-        let at = reader S.left S.faults in
+    ensures { let at = reader S.left S.faults in
         LineRead icnf_line (at window.old src.old) (at window.new src.new) result }
 {
     match enter_line(window, src) {

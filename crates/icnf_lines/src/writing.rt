@@ -16,8 +16,7 @@ use session_rules::{Event, WriteFault};
 /// `Exhausted` comes exactly where the line is longer than the room, `Write` only where the sink's count of faults rose
 /// or stands at its end. What each leaves is as with `line_writing::write_parts`.
 pub fn write_header<K: Sink>(sink: &mut K, room: &mut u64, name: &[u8]) -> Result<(), WriteFault>
-    ensures {
-        let at = writer K.written K.finished K.faults in
+    ensures { let at = writer K.written K.finished K.faults in
         WritesLine (line_text (header_words name.now)) (at sink.old room.old) (at sink.new room.new) result }
 {
     write_parts(sink, room, b'p', &[Part::Word(name)])
@@ -30,8 +29,7 @@ pub fn write_header<K: Sink>(sink: &mut K, room: &mut u64, name: &[u8]) -> Resul
 /// `Exhausted` comes exactly where the line is longer than the room, `Write` only where the sink's count of faults rose
 /// or stands at its end. What each leaves is as with `line_writing::write_parts`.
 pub fn write_line<K: Sink>(sink: &mut K, room: &mut u64, event: &Event) -> Result<(), WriteFault>
-    ensures {
-        let at = writer K.written K.finished K.faults in
+    ensures { let at = writer K.written K.finished K.faults in
         WritesLine (line_text (event_words event.now)) (at sink.old room.old) (at sink.new room.new) result }
 {
     match event {

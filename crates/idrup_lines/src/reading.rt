@@ -18,8 +18,7 @@ fn read_step<S: Source>(
     src: &mut S,
     letter: Letter,
 ) -> Result<Step, LineFault>
-    ensures {
-        let at = reader S.left S.faults in
+    ensures { let at = reader S.left S.faults in
         BodyRead (step_at letter) (at window.old src.old) (at window.new src.new) result }
 {
     match letter {
@@ -43,8 +42,7 @@ pub fn read_line<S: Source>(
     window: &mut Window,
     src: &mut S,
 ) -> Result<Option<Step>, LineFault>
-    ensures {
-        let at = reader S.left S.faults in
+    ensures { let at = reader S.left S.faults in
         LineRead idrup_line (at window.old src.old) (at window.new src.new) result }
 {
     match enter_line(window, src) {

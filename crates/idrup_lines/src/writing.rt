@@ -18,8 +18,7 @@ use session_rules::{Step, WriteFault};
 /// `Exhausted` comes exactly where the line is longer than the room, `Write` only where the sink's count of faults rose
 /// or stands at its end. What each leaves is as with `line_writing::write_parts`.
 pub fn write_line<K: Sink>(sink: &mut K, room: &mut u64, step: &Step) -> Result<(), WriteFault>
-    ensures {
-        let at = writer K.written K.finished K.faults in
+    ensures { let at = writer K.written K.finished K.faults in
         WritesLine (line_text (step_words step.now)) (at sink.old room.old) (at sink.new room.new) result }
 {
     match step {
@@ -43,10 +42,9 @@ pub fn write_lits<K: Sink>(
     letter: u8,
     lits: &[Lit],
 ) -> Result<(), WriteFault>
-    ensures {
-        let at = writer K.written K.finished K.faults in
+    ensures { let at = writer K.written K.finished K.faults in
         WritesLine (line_text ((letter ∷ []) ∷ literal_words lits.now))
-            (at sink.old room.old) (at sink.new room.new) result }
+        (at sink.old room.old) (at sink.new room.new) result }
 {
     write_parts(sink, room, letter, &[Part::Lits(lits)])
 }

@@ -6,8 +6,8 @@ ghost use Rattle.line_reading.specs.Readers.{reader, BodyRead, LineRead};
 mod tests;
 
 use line_reading::{
-    Spare, enter_line, id_literals_ids_body, id_literals_body, ids_body, literals_ids_body,
-    literals_body, status_body,
+    Spare, enter_line, id_literals_body, id_literals_ids_body, ids_body, literals_body,
+    literals_ids_body, status_body,
 };
 use outside::Source;
 use session_rules::{LStep, Letter, LineFault, Rule};
@@ -20,8 +20,7 @@ fn read_step<S: Source>(
     src: &mut S,
     letter: Letter,
 ) -> Result<LStep, LineFault>
-    ensures {
-        let at = reader S.left S.faults in
+    ensures { let at = reader S.left S.faults in
         BodyRead (id_step_at letter) (at window.old src.old) (at window.new src.new) result }
 {
     match letter {
@@ -62,8 +61,7 @@ pub fn read_line<S: Source>(
     window: &mut Window,
     src: &mut S,
 ) -> Result<Option<LStep>, LineFault>
-    ensures {
-        let at = reader S.left S.faults in
+    ensures { let at = reader S.left S.faults in
         LineRead lidrup_line (at window.old src.old) (at window.new src.new) result }
 {
     match enter_line(window, src) {

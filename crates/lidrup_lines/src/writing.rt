@@ -18,8 +18,7 @@ use session_rules::{Id, LStep, WriteFault};
 /// `Exhausted` comes exactly where the line is longer than the room, `Write` only where the sink's count of faults rose
 /// or stands at its end. What each leaves is as with `line_writing::write_parts`.
 pub fn write_line<K: Sink>(sink: &mut K, room: &mut u64, step: &LStep) -> Result<(), WriteFault>
-    ensures {
-        let at = writer K.written K.finished K.faults in
+    ensures { let at = writer K.written K.finished K.faults in
         WritesLine (line_text (id_step_words step.now)) (at sink.old room.old) (at sink.new room.new) result }
 {
     match step {
@@ -64,10 +63,9 @@ pub fn write_lemma<'a, K: Sink>(
     lits: &'a [Lit],
     hints: &'a [Id],
 ) -> Result<(), WriteFault>
-    ensures {
-        let at = writer K.written K.finished K.faults in
+    ensures { let at = writer K.written K.finished K.faults in
         WritesLine (line_text (codes "l" ∷ decimal id ∷ (literal_words lits.now ++ id_words hints.now)))
-            (at sink.old room.old) (at sink.new room.new) result }
+        (at sink.old room.old) (at sink.new room.new) result }
 {
     write_parts(
         sink,
@@ -84,10 +82,9 @@ pub fn write_lemma<'a, K: Sink>(
 /// `Exhausted` comes exactly where the line is longer than the room, `Write` only where the sink's count of faults rose
 /// or stands at its end. What each leaves is as with `line_writing::write_parts`.
 pub fn write_id<K: Sink>(sink: &mut K, room: &mut u64, letter: u8, id: Id) -> Result<(), WriteFault>
-    ensures {
-        let at = writer K.written K.finished K.faults in
+    ensures { let at = writer K.written K.finished K.faults in
         WritesLine (line_text ((letter ∷ []) ∷ id_words (id ∷ [])))
-            (at sink.old room.old) (at sink.new room.new) result }
+        (at sink.old room.old) (at sink.new room.new) result }
 {
     write_parts(sink, room, letter, &[Part::Ids(&[id])])
 }

@@ -1,7 +1,6 @@
 -- The letter of the line that comes next.
 use Rattle.std.proofs.Common.{◌≡◌, ℕ, ◌<◌, ◌≤◌, ◌⊎◌, Bool, true, nat_lt, if◌then◌else◌, List, [], ◌∷◌, length, Some, Ok, Err, refl, sym, ap, ◌∙◌, subst, inl, inr, ltb-true, arith}
 use Rattle.std.proofs.lemmas.Bool.{cases_Bool}
-use Rattle.std.specs.declared.option.Option.{Option}
 use Rattle.std.specs.declared.result.Result.{Result}
 use Rattle.session_rules.specs.declared.Letter.{Letter}
 use Rattle.session_rules.specs.declared.Letter.TheVariants as letters

@@ -1,22 +1,20 @@
 -- What a reader read in its line, one part behind the other.
-use Rattle.std.proofs.Common.{◌≡◌, ℕ, ◌≤◌, List, Some, None, Ok, Err, ap, ◌∙◌, arith}
+use Rattle.std.proofs.Common.{◌≡◌, ℕ, ◌≤◌, List, Some, None, Err, ap, ◌∙◌, arith}
 use Rattle.std.specs.declared.option.Option.{Option}
 use Rattle.std.specs.declared.result.Result.{Result}
 use Rattle.std.specs.Prelude.{IfSome, IsErrOf}
-use Rattle.outside.specs.Faults.{one_more, Rose}
+use Rattle.outside.specs.Faults.{Rose}
 use Rattle.session_rules.specs.declared.Rule.{Rule}
 use Rattle.session_rules.specs.declared.LineFault.{LineFault}
-use Rattle.session_rules.specs.declared.LineFault.TheVariants.{Syntax, Read, Memory}
-use Rattle.session_rules.specs.Reading.{Fault, Part}
+use Rattle.session_rules.specs.declared.LineFault.TheVariants.{Syntax, Read}
 use Rattle.slice_tokens.specs.declared.token.Token.{Token}
 use Rattle.slice_tokens.specs.declared.token.TokenFault.{TokenFault}
 use Rattle.slice_tokens.specs.declared.token.TokenFault.TheVariants as tokens
 use Rattle.slice_tokens.specs.Place.{Place, WhereTold, present}
 use Rattle.slice_tokens.specs.Due.{due}
 use Rattle.slice_tokens.specs.Calls.{Moves, Answers, Leaves, LeavesLines}
-use Rattle.line_reading.specs.Parts.{Stays, ReadsPart, line_fault_of}
-use Rattle.line_reading.specs.Whole.{ReadsBody}
-use Rattle.line_reading.specs.Readers.{Reader, to_come, ReadsInLine, PartRead, BodyRead}
+use Rattle.line_reading.specs.Parts.{Stays, line_fault_of}
+use Rattle.line_reading.specs.Readers.{Reader, to_come, ReadsInLine}
 
 -- ---- Where the bytes may be told
 

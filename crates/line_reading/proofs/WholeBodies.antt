@@ -1,6 +1,5 @@
 -- The rest of a line, read part by part to its end.
 use Rattle.std.proofs.Common.{◌≡◌, ℕ, Bool, true, false, if◌then◌else◌, List, [], ◌∷◌, Some, None, Ok, Err, refl, sym, ap, ◌∙◌, subst}
-use Rattle.std.specs.declared.option.Option.{Option}
 use Rattle.std.specs.declared.result.Result.{Result}
 use Rattle.session_rules.specs.declared.Rule.{Rule}
 use Rattle.session_rules.specs.declared.Rule.TheVariants as rules

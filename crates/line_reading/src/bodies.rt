@@ -18,8 +18,7 @@ pub fn literals_body<S: Source>(
     window: &mut Window,
     src: &mut S,
 ) -> Result<Lits, LineFault>
-    ensures body {
-        let at = reader S.left S.faults in
+    ensures body { let at = reader S.left S.faults in
         BodyRead literals_body (at window.old src.old) (at window.new src.new) result }
 {
     let lits = read_literals(spare, window, src)?;
@@ -33,8 +32,7 @@ pub fn ids_body<S: Source>(
     window: &mut Window,
     src: &mut S,
 ) -> Result<Ids, LineFault>
-    ensures body {
-        let at = reader S.left S.faults in
+    ensures body { let at = reader S.left S.faults in
         BodyRead ids_body (at window.old src.old) (at window.new src.new) result }
 {
     let ids = read_ids(spare, window, src)?;
@@ -44,8 +42,7 @@ pub fn ids_body<S: Source>(
 
 /// A status.
 pub fn status_body<S: Source>(window: &mut Window, src: &mut S) -> Result<StatusWord, LineFault>
-    ensures body {
-        let at = reader S.left S.faults in
+    ensures body { let at = reader S.left S.faults in
         BodyRead status_body (at window.old src.old) (at window.new src.new) result }
     ensures memory { IsErrOf result LineFault.Memory → ⊥ }
 {
@@ -60,8 +57,7 @@ pub fn id_literals_body<S: Source>(
     window: &mut Window,
     src: &mut S,
 ) -> Result<(Id, Lits), LineFault>
-    ensures body {
-        let at = reader S.left S.faults in
+    ensures body { let at = reader S.left S.faults in
         BodyRead id_literals_body (at window.old src.old) (at window.new src.new) result }
 {
     let id = read_id(window, src)?;
@@ -75,8 +71,7 @@ pub fn id_literals_ids_body<S: Source>(
     window: &mut Window,
     src: &mut S,
 ) -> Result<(Id, Lits, Ids), LineFault>
-    ensures body {
-        let at = reader S.left S.faults in
+    ensures body { let at = reader S.left S.faults in
         BodyRead id_literals_ids_body (at window.old src.old) (at window.new src.new) result }
 {
     let id = read_id(window, src)?;
@@ -90,8 +85,7 @@ pub fn literals_ids_body<S: Source>(
     window: &mut Window,
     src: &mut S,
 ) -> Result<(Lits, Ids), LineFault>
-    ensures body {
-        let at = reader S.left S.faults in
+    ensures body { let at = reader S.left S.faults in
         BodyRead literals_ids_body (at window.old src.old) (at window.new src.new) result }
 {
     let lits = read_literals(spare, window, src)?;

@@ -12,8 +12,7 @@ use slice_tokens::{TokenFault, Window};
 /// Goes to the next content line and reads its letter; none at the end of the stream.
 #[inline]
 pub fn enter_line<S: Source>(window: &mut Window, src: &mut S) -> Result<Option<Letter>, LineFault>
-    ensures letter {
-        let at = reader S.left S.faults in
+    ensures letter { let at = reader S.left S.faults in
         LetterRead (at window.old src.old) (at window.new src.new) result }
     ensures memory { IsErrOf result LineFault.Memory → ⊥ }
 {

@@ -29,10 +29,9 @@ pub fn expect_word<S: Source>(
     word: &[u8],
     rule: Rule,
 ) -> Result<(), LineFault>
-    ensures part {
-        let at = reader S.left S.faults in
+    ensures part { let at = reader S.left S.faults in
         PartRead (expected_word word.now rule)
-            (at window.old src.old) (at window.new src.new) result }
+        (at window.old src.old) (at window.new src.new) result }
     ensures memory { IsErrOf result LineFault.Memory → ⊥ }
 {
     match window.next(src) {
@@ -47,8 +46,7 @@ pub fn expect_word<S: Source>(
 
 /// The line's end; any further word, however long, breaks the rule.
 pub fn expect_end<S: Source>(window: &mut Window, src: &mut S, rule: Rule) -> Result<(), LineFault>
-    ensures body {
-        let at = reader S.left S.faults in
+    ensures body { let at = reader S.left S.faults in
         BodyRead (expected_end rule) (at window.old src.old) (at window.new src.new) result }
     ensures memory { IsErrOf result LineFault.Memory → ⊥ }
 {

@@ -15,22 +15,22 @@
 //! a word at fault) is read as a word first. Both ways have one contract.
 #![tactic(auto)]
 
+mod bodies;
 mod entering;
 mod expecting;
 mod kinds;
 mod lists;
-mod bodies;
 mod runs;
 mod spare;
 mod words;
 
+pub use bodies::{
+    id_literals_body, id_literals_ids_body, ids_body, literals_body, literals_ids_body, status_body,
+};
 pub use entering::enter_line;
 pub use expecting::{expect_end, expect_word};
 pub use kinds::{LetterWords, LiteralWords};
 pub use lists::{read_id, read_ids, read_literals, read_status};
-pub use bodies::{
-    id_literals_ids_body, id_literals_body, ids_body, literals_ids_body, literals_body, status_body,
-};
 pub use runs::pass_literals;
 pub use spare::Spare;
 pub use words::{WordKind, end_line, next_word};

@@ -20,8 +20,7 @@ pub fn read_literals<S: Source>(
     window: &mut Window,
     src: &mut S,
 ) -> Result<Lits, LineFault>
-    ensures part {
-        let at = reader S.left S.faults in
+    ensures part { let at = reader S.left S.faults in
         PartRead literal_list (at window.old src.old) (at window.new src.new) result }
 {
     let mut lits = empty_literals(spare);
@@ -52,8 +51,7 @@ pub fn read_ids<S: Source>(
     window: &mut Window,
     src: &mut S,
 ) -> Result<Ids, LineFault>
-    ensures part {
-        let at = reader S.left S.faults in
+    ensures part { let at = reader S.left S.faults in
         PartRead id_list (at window.old src.old) (at window.new src.new) result }
 {
     let mut ids = empty_ids(spare);
@@ -73,8 +71,7 @@ pub fn read_ids<S: Source>(
 /// The line's own id, which isn't 0.
 #[inline(always)]
 pub fn read_id<S: Source>(window: &mut Window, src: &mut S) -> Result<Id, LineFault>
-    ensures part {
-        let at = reader S.left S.faults in
+    ensures part { let at = reader S.left S.faults in
         PartRead own_id (at window.old src.old) (at window.new src.new) result }
     ensures memory { IsErrOf result LineFault.Memory → ⊥ }
 {
@@ -83,8 +80,7 @@ pub fn read_id<S: Source>(window: &mut Window, src: &mut S) -> Result<Id, LineFa
 
 /// A status.
 pub fn read_status<S: Source>(window: &mut Window, src: &mut S) -> Result<StatusWord, LineFault>
-    ensures part {
-        let at = reader S.left S.faults in
+    ensures part { let at = reader S.left S.faults in
         PartRead status_word (at window.old src.old) (at window.new src.new) result }
     ensures memory { IsErrOf result LineFault.Memory → ⊥ }
 {

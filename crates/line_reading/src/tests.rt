@@ -1,5 +1,5 @@
 // Lines that are read by their letter, and one whose word is no number.
-use crate::{Spare, enter_line, literals_ids_body, literals_body, status_body};
+use crate::{Spare, enter_line, literals_body, literals_ids_body, status_body};
 use outside::MemorySource;
 use session_rules::{Letter, LineFault, Rule, StatusWord};
 use slice_tokens::Window;

@@ -55,10 +55,9 @@ pub fn next_word<S: Source, K: WordKind>(
     window: &mut Window,
     src: &mut S,
 ) -> Result<K::Value, LineFault>
-    ensures part {
-        let at = reader S.left S.faults in
+    ensures part { let at = reader S.left S.faults in
         PartRead (word_part K.says K.missing K.long)
-            (at window.old src.old) (at window.new src.new) result }
+        (at window.old src.old) (at window.new src.new) result }
     ensures progress { IfOk result (λ _. window.old.passed < window.new.passed) }
     ensures memory { IsErrOf result LineFault.Memory → ⊥ }
 {
@@ -77,10 +76,9 @@ pub(crate) fn first_word<S: Source, K: WordKind>(
     window: &mut Window,
     src: &mut S,
 ) -> Result<K::Value, LineFault>
-    ensures part {
-        let at = reader S.left S.faults in
+    ensures part { let at = reader S.left S.faults in
         PartRead (word_part K.says K.missing K.long)
-            (at window.old src.old) (at window.new src.new) result }
+        (at window.old src.old) (at window.new src.new) result }
     ensures progress { IfOk result (λ _. window.old.passed < window.new.passed) }
     ensures memory { IsErrOf result LineFault.Memory → ⊥ }
 {
@@ -99,10 +97,9 @@ fn whole_word<S: Source, K: WordKind>(
     window: &mut Window,
     src: &mut S,
 ) -> Result<K::Value, LineFault>
-    ensures part {
-        let at = reader S.left S.faults in
+    ensures part { let at = reader S.left S.faults in
         PartRead (word_part K.says K.missing K.long)
-            (at window.old src.old) (at window.new src.new) result }
+        (at window.old src.old) (at window.new src.new) result }
     ensures progress { IfOk result (λ _. window.old.passed < window.new.passed) }
     ensures memory { IsErrOf result LineFault.Memory → ⊥ }
 {
@@ -119,8 +116,7 @@ fn whole_word<S: Source, K: WordKind>(
 /// The line's end; any further word, however long, breaks Excess.
 #[inline(always)]
 pub fn end_line<S: Source>(window: &mut Window, src: &mut S) -> Result<(), LineFault>
-    ensures end {
-        let at = reader S.left S.faults in
+    ensures end { let at = reader S.left S.faults in
         EndRead (at window.old src.old) (at window.new src.new) result }
     ensures memory { IsErrOf result LineFault.Memory → ⊥ }
 {
@@ -133,8 +129,7 @@ pub fn end_line<S: Source>(window: &mut Window, src: &mut S) -> Result<(), LineF
 // The line's end, where it isn't at the next byte.
 #[inline(never)]
 fn later_end<S: Source>(window: &mut Window, src: &mut S) -> Result<(), LineFault>
-    ensures end {
-        let at = reader S.left S.faults in
+    ensures end { let at = reader S.left S.faults in
         EndRead (at window.old src.old) (at window.new src.new) result }
     ensures memory { IsErrOf result LineFault.Memory → ⊥ }
 {

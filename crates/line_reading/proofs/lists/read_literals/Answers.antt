@@ -37,15 +37,17 @@ returns-in-Ok-default-true g c =
     let n = c.in-Ok-default-true.count in
     let run = rw c.in-Ok-default-true.field-0-1-test at c.in-Ok-default-true.ensures.run in
     let all : c.push_run.new.lits ≡ run.0 = run.2 ∙ ap (λ l. l ++ run.0) c.empty_literals-lits.ensures in
-    record { part = record {
-      stays = record { moves = c.pass_over.ensures.moves; line = c.pass_over.ensures.line; standing = c.pass_over.ensures.standing };
-      told =
-          subst (λ q. WhereTold (ahead p left) (ahead q left) (λ t u. ReadsPart literal_list (Ok c.push_run.new.lits) p t q u)) (sym c.pass_over.ensures.place)
-          (subst (λ l. WhereTold (ahead p left) (ahead (passed_over n p) left) (λ t u. ReadsPart literal_list (Ok l) p t (passed_over n p) u)) (sym all)
-          (whole_read run.0 p n left c.coming.ensures.sound.bounded (subst (λ b. IsWholeRun run.0 b n) c.coming.ensures.value run.1)));
-      count = omega arith;
-      read = λ e. cc e;
-    } }
+    record {
+      part = record {
+        stays = record { moves = c.pass_over.ensures.moves; line = c.pass_over.ensures.line; standing = c.pass_over.ensures.standing };
+        told =
+            subst (λ q. WhereTold (ahead p left) (ahead q left) (λ t u. ReadsPart literal_list (Ok c.push_run.new.lits) p t q u)) (sym c.pass_over.ensures.place)
+            (subst (λ l. WhereTold (ahead p left) (ahead (passed_over n p) left) (λ t u. ReadsPart literal_list (Ok l) p t (passed_over n p) u)) (sym all)
+            (whole_read run.0 p n left c.coming.ensures.sound.bounded (subst (λ b. IsWholeRun run.0 b n) c.coming.ensures.value run.1)));
+        count = omega arith;
+        read = λ e. cc e;
+      };
+    }
 
 pub literals-preserved : goal.literals-preserved
 literals-preserved g c =
