@@ -28,6 +28,7 @@ use Rattle.propagation.specs.Engine.{EngineView}
 use Rattle.session_events.specs.State.{State, StandsFor, kind_of, order_rules, model_rules, core_rules}
 use Rattle.side_laws.specs.ClauseStates.{ClauseState, Clauses, kept, ChangesAt}
 use Rattle.side_laws.specs.Sets.{new_clause, HoldsSets}
+use Rattle.side_laws.proofs.Named.{changes-named}
 use Rattle.side_laws.proofs.Held.{holds_no_sets, sets_silent, sets_given, sets_deleted, sets_weakened, sets_restored, active_some, weakened_some, active_none, weakened_none}
 use Rattle.pair_matcher.specs.Sides.{first_rule, AreAfter, Judged, holding}
 use Rattle.pair_matcher.specs.Inside.{kept_of_clause, clauses_of_engine}
@@ -63,11 +64,11 @@ after_event m next s t e gives takes ps a = record {
 
 module _ (m : Clauses) (next : ℕ) (s : State) (n : Clauses) (after : ℕ) (t : State) (step : Step) where
   stops : (r : Rule) → ((ps : List Step) → AreAfter (holding m next s) ps → first_rule (own_faults ps step) ≡ Some r) → Judged (holding m next s) (holding n after t) step (Some r)
-  stops r h = record { rule = λ ps a. sym (h ps a); stands = tt }
+  stops r h = record { rule = λ ps a. sym (h ps a); stands = tt; named = tt }
 
   goes_on : ((ps : List Step) → AreAfter (holding m next s) ps → first_rule (own_faults ps step) ≡ None)
       → ((ps : List Step) → AreAfter (holding m next s) ps → AreAfter (holding n after t) (ps ++ step ∷ [])) → Judged (holding m next s) (holding n after t) step None
-  goes_on h k = record { rule = λ ps a. sym (h ps a); stands = k }
+  goes_on h k = record { rule = λ ps a. sym (h ps a); stands = k; named = λ ps a id e. changes-named m n next after ps step id a.clauses (k ps a).clauses e }
 
 -- ---- Queries, statuses and models
 
@@ -237,8 +238,12 @@ module _ (m : Store) (e f : EngineView) (same : clauses_of m ≡ e.clauses) (nex
 -- a step that was judged after other calls that left all that steps leave
 pub judged-after : (m k n : Clauses) (next now after : ℕ) (s r t : State) (step : Step) (answer : Option Rule)
     → ((ps : List Step) → AreAfter (holding m next s) ps → AreAfter (holding k now r) ps) → Judged (holding k now r) (holding n after t) step answer → Judged (holding m next s) (holding n after t) step answer
-judged-after m k n next now after s r t step None h j = record { rule = λ ps a. j.rule ps (h ps a); stands = λ ps a. j.stands ps (h ps a) }
-judged-after m k n next now after s r t step (Some rule) h j = record { rule = λ ps a. j.rule ps (h ps a); stands = tt }
+judged-after m k n next now after s r t step None h j = record {
+  rule = λ ps a. j.rule ps (h ps a);
+  stands = λ ps a. j.stands ps (h ps a);
+  named = λ ps a id e. changes-named m n next after ps step id a.clauses (j.stands ps (h ps a)).clauses e;
+}
+judged-after m k n next now after s r t step (Some rule) h j = record { rule = λ ps a. j.rule ps (h ps a); stands = tt; named = tt }
 
 pub judged_ok : (m k n : Clauses) (next now after : ℕ) (s r t : State) (step : Step) (result : Result (Option Rule) AllocError)
     → ((ps : List Step) → AreAfter (holding m next s) ps → AreAfter (holding k now r) ps) → IfOk result (λ a. Judged (holding k now r) (holding n after t) step a) → IfOk result (λ a. Judged (holding m next s) (holding n after t) step a)

@@ -7,9 +7,9 @@ use Rattle.session_rules.specs.declared.Event.TheVariants as events
 use Rattle.session_rules.specs.declared.Step.{Step}
 use Rattle.session_rules.specs.declared.Step.TheVariants as steps
 use Rattle.session_rules.specs.Own.{events_of, own_faults, id_events_of, own_id_faults}
-use Rattle.side_laws.specs.ClauseStates.{Clauses}
+use Rattle.side_laws.specs.ClauseStates.{Clauses, ChangesAt}
 use Rattle.side_laws.specs.Ids.{HoldsIds}
-use Rattle.side_laws.specs.Sets.{HoldsSets}
+use Rattle.side_laws.specs.Sets.{named_id, kept_at, HoldsSets}
 use Rattle.session_events.specs.State.{State}
 use Rattle.session_events.specs.State as state
 
@@ -82,10 +82,11 @@ pub record AreAfter (s : IdrupState) (ps : List Step) : Type 0 where
 abbrev pub StandsFor : IdrupView → List Step → Type 0
 StandsFor v ps = AreAfter (holding v.clauses v.next v.events) ps
 
--- the step was judged, as with ids
+-- the step was judged, as with ids; and of all ids it changes the one that it names alone
 pub record Judged (old new : IdrupState) (step : Step) (answer : Option Rule) : Type 0 where
   pub rule : (ps : List Step) → AreAfter old ps → answer ≡ first_rule (own_faults ps step)
   pub stands : IfNone answer ((ps : List Step) → AreAfter old ps → AreAfter new (ps ++ step ∷ []))
+  pub named : IfNone answer ((ps : List Step) → AreAfter old ps → (id : ℕ) → named_id ps step ≡ Some id → ChangesAt old.clauses new.clauses id (kept_at (ps ++ step ∷ []) id))
 
 -- the steps without ids that take no memory: a status, a core, and a deletion of at most so many literals as a set holds without
 -- memory

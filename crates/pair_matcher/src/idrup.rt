@@ -3,7 +3,7 @@
 // the trail from one line to the next. Where a clause is deleted or weakened that is a literal's reason, a clause of this literal
 // alone takes its place, and the trail is given up only where there is none or the clause that goes is the first one.
 
-ghost use Rattle.std.specs.Prelude.{◌≡◌, ◌+◌, ◌<◌, ◌≤◌, ◌^◌, List, [], ◌∷◌, ◌++◌, true, false, length, IsTrue, IfOk, IfNone, IsOk, OnOk, OnErr, is_none, All};
+ghost use Rattle.std.specs.Prelude.{ℕ, Some, ◌≡◌, ◌+◌, ◌<◌, ◌≤◌, ◌^◌, List, [], ◌∷◌, ◌++◌, true, false, length, IsTrue, IfOk, IfNone, IsOk, OnOk, OnErr, is_none, All};
 ghost use Rattle.lits.specs.Literal.{max_var, var};
 ghost use Rattle.session_rules.specs.declared.Event.TheVariants as events;
 ghost use Rattle.session_rules.specs.declared.Step.{Step};
@@ -12,6 +12,8 @@ ghost use Rattle.session_rules.specs.History.{phase, broken_unless};
 ghost use Rattle.session_rules.specs.Own.{events_of, own_faults};
 ghost use Rattle.session_rules.specs.Pair.{is_idle};
 ghost use Rattle.session_events.specs.State.{AreReserved};
+ghost use Rattle.side_laws.specs.ClauseStates.{ChangesAt};
+ghost use Rattle.side_laws.specs.Sets.{named_id, kept_at};
 ghost use Rattle.pair_matcher.specs.Sides.{StandsFor, AreAfter, Judged, first_rule, is_frugal};
 ghost use Rattle.pair_matcher.specs.Inside.{IsBetweenLines, state_of};
 
@@ -314,6 +316,10 @@ impl IdrupSide {
         requires next { self.old.next < 2 ^ 63 }
         ensures rule { IfOk result (λ r. (ps : List Step) → StandsFor self.old ps → r ≡ first_rule (own_faults ps step.now)) }
         ensures stands { IfOk result (λ r. IfNone r ((ps : List Step) → StandsFor self.old ps → StandsFor self.new (ps ++ step.now ∷ []))) }
+        // An input and a lemma name the next id, a deletion and a weakening the least active id of the clause's set, a restoring
+        // the least weakened one; of all ids the step changes this one alone.
+        ensures named { IfOk result (λ r. IfNone r ((ps : List Step) → StandsFor self.old ps → (id : ℕ) → named_id ps step.now ≡ Some id
+            → ChangesAt self.old.clauses self.new.clauses id (kept_at (ps ++ step.now ∷ []) id))) }
         ensures live { IfOk result (λ r. self.new.live ≡ is_none r) }
         ensures err { OnErr result (self.new.live ≡ false) }
         ensures next { self.new.next ≤ self.old.next + 1 }

@@ -10,7 +10,8 @@ use Rattle.session_rules.specs.declared.Step.TheVariants as steps
 use Rattle.session_rules.specs.declared.Standing.{Standing}
 use Rattle.session_rules.specs.declared.Standing.TheVariants.{Active, Weakened, Absent}
 use Rattle.session_rules.specs.Own.{is_active, is_weakened}
-use Rattle.side_laws.specs.Sets.{GivenClause, standing_so, is_such, with_first, behind_step, behind_steps, given_by, with_id, standing_or_absent, standing_at, clause_at, next_id, named_id, IsLeastSuch, LeavesOthers, left_by}
+use Rattle.side_laws.specs.Sets.{GivenClause, standing_so, is_such, with_first, behind_step, behind_steps, given_by, with_id, standing_or_absent, standing_at, clause_at, next_id, named_id, IsLeastSuch, LeavesOthers, left_by, kept_of_given, kept_at, HoldsSets}
+use Rattle.side_laws.specs.ClauseStates.{Clauses, ChangesAt}
 use Rattle.side_laws.proofs.Given.{IsFirst, given-push, id-push, id-other, turned-there, turned-others}
 
 -- ---- The least of a set
@@ -78,6 +79,14 @@ leaves-others ps (steps.Lemma c) id e = leaves-given ps (steps.Lemma c) id c ref
 leaves-others ps (steps.Delete c) id e = leaves-turned ps (steps.Delete c) id is_active Absent c refl refl e
 leaves-others ps (steps.Weaken c) id e = leaves-turned ps (steps.Weaken c) id is_active Weakened c refl refl e
 leaves-others ps (steps.Restore c) id e = leaves-turned ps (steps.Restore c) id is_weakened Active c refl refl e
+
+-- of two maps that hold what the steps leave before a step and behind it, one id differs
+pub changes-named : (m n : Clauses) (next after : ℕ) (ps : List Step) (p : Step) (id : ℕ) → HoldsSets m next ps → HoldsSets n after (ps ++ p ∷ []) → named_id ps p ≡ Some id
+    → ChangesAt m n id (kept_at (ps ++ p ∷ []) id)
+changes-named m n next after ps p id h k e = record {
+  there = k.clauses id;
+  others = λ x ne. k.clauses x ∙ ap kept_of_given ((leaves-others ps p id e).others x ne) ∙ sym (h.clauses x);
+}
 
 -- ---- Small cases
 

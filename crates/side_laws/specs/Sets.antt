@@ -130,11 +130,15 @@ abbrev pub kept_of_given : Option GivenClause → Option ClauseState
 kept_of_given None = None
 kept_of_given (Some g) = kept_as g.standing g.clause
 
+-- what is kept of an id behind these steps
+abbrev pub kept_at : List Step → ℕ → Option ClauseState
+kept_at ps id = kept_of_given (with_id (given_by ps) id)
+
 -- the next id is that of the steps, and of each id is kept what they leave: whether it is active or weakened, and the set of
 -- its clause; and each step found what it takes or gives back
 pub record HoldsSets (m : Clauses) (next : ℕ) (ps : List Step) : Type 0 where
   pub given : next ≡ next_id ps
-  pub clauses : (id : ℕ) → get m id ≡ kept_of_given (with_id (given_by ps) id)
+  pub clauses : (id : ℕ) → get m id ≡ kept_at ps id
   pub found : IsTrue (all_find [] ps)
 
 -- the least id of which this is kept and whose set is that of the clause

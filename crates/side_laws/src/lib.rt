@@ -15,7 +15,7 @@ ghost use Rattle.session_rules.specs.Logic.{closes, hints_fail};
 ghost use Rattle.session_rules.specs.Own.{added_clause, removed_clause, weakened_clause, restored_clause, active_copies, weakened_copies, active_clauses, given_clause, mentions, active_clause, is_active, is_weakened};
 ghost use Rattle.side_laws.specs.ClauseStates.{Clauses, kept, active_in, ChangesAt};
 ghost use Rattle.side_laws.specs.Ids.{HoldsIds, SameClauses};
-ghost use Rattle.side_laws.specs.Sets.{new_clause, given_by, named_id, how_many, IsLeastSuch, LeavesOthers, HoldsSets, IsLeast, SetsAmong, AreActive};
+ghost use Rattle.side_laws.specs.Sets.{new_clause, given_by, named_id, how_many, IsLeastSuch, LeavesOthers, kept_at, HoldsSets, IsLeast, SetsAmong, AreActive};
 
 /// A side with no clause holds the clauses of no step; a step that gives a clause makes it active under its id.
 pub fn given_clauses_are_active()
@@ -69,6 +69,8 @@ pub fn steps_name_ids()
     ensures weakened { (ps : List Step) (c : List ℕ) (id : ℕ) → named_id ps (steps.Weaken c) ≡ Some id → IsLeastSuch is_active ps c id }
     ensures restored { (ps : List Step) (c : List ℕ) (id : ℕ) → named_id ps (steps.Restore c) ≡ Some id → IsLeastSuch is_weakened ps c id }
     ensures changed { (ps : List Step) (p : Step) (id : ℕ) → named_id ps p ≡ Some id → LeavesOthers ps p id }
+    ensures one_change { (m n : Clauses) (next after : ℕ) (ps : List Step) (p : Step) (id : ℕ) → HoldsSets m next ps
+        → HoldsSets n after (ps ++ p ∷ []) → named_id ps p ≡ Some id → ChangesAt m n id (kept_at (ps ++ p ∷ []) id) }
     ensures kept_active { (m : Clauses) (next : ℕ) (ps : List Step) (c : List ℕ) (id : ℕ) (ls : List ℕ) → HoldsSets m next ps
         → IsLeast m true c id ls → named_id ps (steps.Delete c) ≡ Some id }
     ensures kept_weakened { (m : Clauses) (next : ℕ) (ps : List Step) (c : List ℕ) (id : ℕ) (ls : List ℕ) → HoldsSets m next ps

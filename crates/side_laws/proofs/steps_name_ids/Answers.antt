@@ -2,7 +2,7 @@ use Rattle.std.specs.Prelude.{true, false}
 use Rattle.session_rules.specs.Own.{is_active, is_weakened}
 use Rattle.side_laws.proofs.Given.{count-active, count-weakened}
 use Rattle.side_laws.proofs.Held.{least_named}
-use Rattle.side_laws.proofs.Named.{least-such, leaves-others}
+use Rattle.side_laws.proofs.Named.{least-such, leaves-others, changes-named}
 use Rattle.side_laws.proofs.steps_name_ids.Goals as goal
 
 pub returns-clause-deleted : goal.returns-clause-deleted
@@ -28,3 +28,6 @@ returns-clause-active_count c = λ m next ps h d. count-active ps h.found d
 
 pub returns-clause-weakened_count : goal.returns-clause-weakened_count
 returns-clause-weakened_count c = λ m next ps h d. count-weakened ps h.found d
+
+pub returns-clause-one_change : goal.returns-clause-one_change
+returns-clause-one_change c = changes-named
