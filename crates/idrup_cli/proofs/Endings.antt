@@ -8,7 +8,8 @@ use Rattle.session_rules.specs.declared.Rule.{Rule}
 use Rattle.session_rules.specs.declared.Verdict.{Verdict}
 use Rattle.session_rules.specs.declared.Verdict.TheVariants.{Accepted, Refused}
 use Rattle.session_rules.specs.Pair.{verdict, Certified, events_in}
-use Rattle.session_laws.proofs.Accepted.{verdict_certifies}
+use Rattle.session_laws.specs.Refusals.{IsWhole}
+use Rattle.session_laws.proofs.Accepted.{verdict_certifies, verdict_whole}
 use Rattle.idrup_cli.specs.declared.plan.Places.{Places}
 use Rattle.idrup_cli.specs.declared.ending.Ending.{Ending}
 use Rattle.idrup_cli.specs.declared.ending.Ending.TheVariants.{Checked, Usage, ReadInteraction, ReadProof, NoMemory}
@@ -33,7 +34,7 @@ IfCheck-all P all (Some places) (Some a) (Some b) = λ check. all places.form a 
 
 module _ (status : ℕ) (old new : Option (List ℕ)) (places : Option Places) (left right : Option (List ℕ)) (first second : ℕ × ℕ) where
   abbrev IsCertified : Form → List ℕ → List ℕ → Type 0
-  IsCertified form a b = status ≡ 0 → Certified (events_in a)
+  IsCertified form a b = status ≡ 0 → Certified (events_in a) × IsWhole a
 
   abbrev IsRefused : Form → List ℕ → List ℕ → Type 0
   IsRefused form a b = status ≡ 1 → (side : Side) × (line : ℕ) × (rule : Rule) × (verdict form a b ≡ Refused side line rule)
@@ -46,11 +47,11 @@ module _ (status : ℕ) (old new : Option (List ℕ)) (places : Option Places) (
   not_refused : (of : ℕ) → ¬ (of ≡ 1) → (¬ (status ≡ 4) → status ≡ of) → IfCheck places left right IsRefused
   not_refused of other same = IfCheck-all IsRefused (λ form a b one. absurd (other (sym (same (λ four. omega arith)) ∙ one))) places left right
 
-  -- with 0 the interaction is certified
+  -- with 0 the interaction is certified, and whole
   pub certifies : (ending : Ending) → Cause places left right first second ending → (¬ (status ≡ 4) → status ≡ status_of ending)
       → IfCheck places left right (λ form a b. status ≡ 0 → Certified (events_in a))
   certifies (Checked (Accepted queries)) cause same =
-      IfCheck-map (λ form a b. Accepted queries ≡ verdict form a b) IsCertified (λ form a b is zero. verdict_certifies form a b queries (sym is)) places left right cause.1
+      IfCheck-map (λ form a b. Accepted queries ≡ verdict form a b) IsCertified (λ form a b is zero. (verdict_certifies form a b queries (sym is), verdict_whole form a b queries (sym is))) places left right cause.1
   certifies (Checked (Refused side line rule)) cause same = not_certified 1 (omega arith) same
   certifies Usage cause same = not_certified 2 (omega arith) same
   certifies ReadInteraction cause same = not_certified 3 (omega arith) same
