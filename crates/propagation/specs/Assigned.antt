@@ -67,7 +67,8 @@ with_reason ss l s = map (rested l s) ss
 
 -- each literal was new when it came
 abbrev pub AreNew : ℕ → List TrailEntry → Type 0
-AreNew vars entries = (before after : List TrailEntry) (s : TrailEntry) → entries ≡ before ++ s ∷ after → IsNew vars before s.lit
+AreNew vars entries = (before after : List TrailEntry) (s : TrailEntry) → entries ≡ before ++ s ∷ after
+    → IsNew vars before s.lit
 
 -- what an entry says
 abbrev pub value_of : Value → Option Bool
@@ -90,7 +91,8 @@ pub record AreFreed (old : List Value) (ls : List ℕ) (new : List Value) : Type
 
 -- the origin of each true literal is in the table
 abbrev pub AreOrigins : List TrailEntry → List Origin → Type 0
-AreOrigins entries origins = (l : ℕ) (m : Origin) → IsTrue (has (literals entries) l) → m ≡ get_or origins (var l - 1) m → IsOrigin entries l m
+AreOrigins entries origins = (l : ℕ) (m : Origin) → IsTrue (has (literals entries) l)
+    → m ≡ get_or origins (var l - 1) m → IsOrigin entries l m
 
 -- what holds of the tables; entries and literals have room for each variable
 pub record IsAssigned (entries : List TrailEntry) (lits : List ℕ) (values : List Value) (origins : List Origin) (level entries_room lits_room : ℕ) : Type 0 where

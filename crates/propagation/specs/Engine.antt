@@ -58,7 +58,8 @@ IsFree trues l = (has trues l ≡ false) × (has trues (neg l) ≡ false)
 
 -- the slot is that of an active clause that has the literal and whose other literals are false
 abbrev pub IsReason : Clauses → List ℕ → ℕ → ℕ → Type 0
-IsReason m trues l s = (id : ℕ) × (c : List ℕ) × (slot_of m id ≡ Some s) × (active_at m id ≡ Some c) × IsTrue (is_unit trues c l)
+IsReason m trues l s = (id : ℕ) × (c : List ℕ) × (slot_of m id ≡ Some s) × (active_at m id ≡ Some c)
+    × IsTrue (is_unit trues c l)
 
 -- what holds of a literal when it comes on the trail behind these
 pub record IsEntry (m : Clauses) (vars : ℕ) (before : List TrailEntry) (s : TrailEntry) : Type 0 where
@@ -68,16 +69,22 @@ pub record IsEntry (m : Clauses) (vars : ℕ) (before : List TrailEntry) (s : Tr
 
 -- what holds of every engine
 pub record IsEngine (e : EngineView) : Type 0 where
-  pub entries : (before after : List TrailEntry) (s : TrailEntry) → e.trail ≡ before ++ s ∷ after → IsEntry e.clauses e.vars before s
+  pub entries : (before after : List TrailEntry) (s : TrailEntry) → e.trail ≡ before ++ s ∷ after
+      → IsEntry e.clauses e.vars before s
   -- two active clauses have different slots
   pub slots_apart : (a b s : ℕ) → slot_of e.clauses a ≡ Some s → slot_of e.clauses b ≡ Some s → a ≡ b
   -- and the variables of each clause, active or weakened, are reserved
   pub clauses_reserved : (id l : ℕ) (c : Clause) → finmap.get e.clauses id ≡ Some c → Contains c.literals l → var l ≤ e.vars
   pub vars_limit : e.vars ≤ max_var
 
+-- the slot is that of an active clause that is false under these true literals
+abbrev pub IsFalseUnder : Clauses → List ℕ → ℕ → Type 0
+IsFalseUnder m trues s = (id : ℕ) × (c : List ℕ) × (slot_of m id ≡ Some s) × (active_at m id ≡ Some c)
+    × IsTrue (is_falsified trues c)
+
 -- the slot is that of an active clause that is false
 abbrev pub IsFalseAt : EngineView → ℕ → Type 0
-IsFalseAt e s = (id : ℕ) × (c : List ℕ) × (slot_of e.clauses id ≡ Some s) × (active_at e.clauses id ≡ Some c) × IsTrue (is_falsified (literals e.trail) c)
+IsFalseAt e s = IsFalseUnder e.clauses (literals e.trail) s
 
 -- of the clause nothing follows: it isn't false, and its literals aren't all false but for one that is free
 pub record IsQuiet (trues c : List ℕ) : Type 0 where
@@ -176,7 +183,8 @@ IsUnitClause e id l = active_at e.clauses id ≡ Some (l ∷ [])
 pub record IsRestored (old : EngineView) (id : ℕ) (new : EngineView) : Type 0 where
   pub slot : ℕ
   pub fresh : (x : ℕ) → slot_of old.clauses x ≢ Some slot
-  pub changed : new ≡ with_clauses old (finmap.insert old.clauses id (record { literals = literals_at old.clauses id; slot = Some slot }))
+  pub changed : new ≡ with_clauses old (finmap.insert old.clauses id
+      (record { literals = literals_at old.clauses id; slot = Some slot }))
 
 -- the reason of a true literal, or none
 abbrev pub reason_in : List TrailEntry → ℕ → Option ℕ
@@ -201,7 +209,8 @@ IsOtherUnit e id l s = (x : ℕ) × (x ≢ id) × (slot_of e.clauses x ≡ Some 
 -- the level at which the literal or its negation came on the trail, where so many are assumed before
 unfoldable pub level_behind : ℕ → List TrailEntry → ℕ → Option ℕ
 level_behind n [] l = None
-level_behind n (s ∷ ss) l = let m = (if is_assumed s then n + 1 else n) in if nat_eq (var s.lit) (var l) then Some m else level_behind m ss l
+level_behind n (s ∷ ss) l = let m = (if is_assumed s then n + 1 else n) in
+    if nat_eq (var s.lit) (var l) then Some m else level_behind m ss l
 
 -- the ids name the reasons of these literals, in their order
 abbrev pub reason_named : Clauses → Option ℕ → (List ℕ → Type 0) → List ℕ → Type 0
@@ -215,4 +224,5 @@ ReasonsAre m (s ∷ ss) ids = reason_named m s.reason (ReasonsAre m ss) ids
 
 -- the assumed literals of a trail are among these
 abbrev pub AssumesFrom : List TrailEntry → List ℕ → Type 0
-AssumesFrom ss ls = (before after : List TrailEntry) (s : TrailEntry) → ss ≡ before ++ s ∷ after → s.reason ≡ None → IsTrue (has ls s.lit)
+AssumesFrom ss ls = (before after : List TrailEntry) (s : TrailEntry) → ss ≡ before ++ s ∷ after → s.reason ≡ None
+    → IsTrue (has ls s.lit)

@@ -37,5 +37,6 @@ pub record IsEngineInside (w : Watched) (a : Assigned) (head : ℕ) (ids : List 
   pub now : AreHeads w.clauses (literals a.entries) head ids pending_head
   -- for each level, how far its beginning had been propagated
   pub counted : length levels ≡ level_after a.entries
-  pub before : (j : ℕ) (h : Heads) → j < length levels → h ≡ get_or levels j h → AreHeads w.clauses (literals (up_to_level j a.entries)) h.trail ids h.pending
+  pub before : (j : ℕ) (h : Heads) → j < length levels → h ≡ get_or levels j h
+      → AreHeads w.clauses (literals (up_to_level j a.entries)) h.trail ids h.pending
   pub levels_fit : a.vars ≤ levels_room

@@ -1,16 +1,16 @@
 -- What propagation by watches keeps: of each active clause that was looked at a literal is true, or the first two of its
 -- list aren't the negations of literals that have been propagated.
-use Rattle.std.specs.Prelude.{◌≡◌, ◌≢◌, ℕ, ◌-◌, ◌<◌, ◌≤◌, ◌⊎◌, true, false, List, ◌++◌, length, take, slice_index, Option, None, Some, IsTrue}
+use Rattle.std.specs.Prelude.{◌≡◌, ◌≢◌, ℕ, ◌-◌, ◌<◌, ◌≤◌, ◌⊎◌, true, false, List, ◌++◌, length, take, slice_index, Option, None, Some}
 use Rattle.lits.specs.Literal.{neg}
-use Rattle.session_rules.specs.Logic.{has, is_falsified}
+use Rattle.session_rules.specs.Logic.{has}
 use Rattle.clause_store.specs.Clauses.{Store, slot_at, lits_at}
 use Rattle.watch_lists.specs.Watch.{WatchView}
 use Rattle.watch_lists.specs.Watched.{Watched, entry_at, watch_at}
 use Rattle.propagation.specs.declared.TrailEntry.{TrailEntry}
 use Rattle.propagation.specs.declared.Consequence.{Consequence}
 use Rattle.propagation.specs.declared.Consequence.TheVariants as follows
-use Rattle.propagation.specs.Clauses.{clauses_of, slot_of, active_at}
-use Rattle.propagation.specs.Engine.{EngineView, literals, level_after, IsFree, IsReason, IsEngine}
+use Rattle.propagation.specs.Clauses.{clauses_of}
+use Rattle.propagation.specs.Engine.{EngineView, literals, level_after, IsFree, IsReason, IsFalseUnder, IsEngine}
 use Rattle.propagation.specs.Assigned.{Assigned}
 
 -- the clauses, the trail and the variables as callers see them
@@ -43,7 +43,8 @@ IsCovered trues h ls = IsSatisfied trues ls ⊎ HasTwo (take h trues) ls
 -- the next place from this one on whose literal isn't false
 abbrev pub IsNextFree : List ℕ → List ℕ → ℕ → Option ℕ → Type 0
 IsNextFree trues ls n None = (k : ℕ) → n ≤ k → k < length ls → has trues (neg (slice_index ls k)) ≡ true
-IsNextFree trues ls n (Some j) = (n ≤ j) × (j < length ls) × (has trues (neg (slice_index ls j)) ≡ false) × ((k : ℕ) → n ≤ k → k < j → has trues (neg (slice_index ls k)) ≡ true)
+IsNextFree trues ls n (Some j) = (n ≤ j) × (j < length ls) × (has trues (neg (slice_index ls j)) ≡ false)
+    × ((k : ℕ) → n ≤ k → k < j → has trues (neg (slice_index ls k)) ≡ true)
 
 -- ---- All clauses
 
@@ -56,7 +57,8 @@ pub record IsMoved (trues : List ℕ) (m n : Store) : Type 0 where
   pub slots : (id : ℕ) → slot_at n id ≡ slot_at m id
   pub seen : clauses_of n ≡ clauses_of m
   pub members : (id x : ℕ) → has (lits_at n id) x ≡ has (lits_at m id) x
-  pub kept : (id h : ℕ) (ts : List ℕ) → ((x : ℕ) → has ts x ≡ true → has trues x ≡ true) → IsCovered ts h (lits_at m id) → IsCovered ts h (lits_at n id)
+  pub kept : (id h : ℕ) (ts : List ℕ) → ((x : ℕ) → has ts x ≡ true → has trues x ≡ true)
+      → IsCovered ts h (lits_at m id) → IsCovered ts h (lits_at n id)
 
 -- ---- A change of one clause's order
 
@@ -82,20 +84,23 @@ AreFirst ls a b = (slice_index ls 0 ≡ a) × (slice_index ls 1 ≡ b)
 -- the literals at two places are now the first two, in one order or the other
 pub record IsPair (id i j : ℕ) (old new : Watched) : Type 0 where
   pub order : IsReordered id old new
-  pub first_two : AreFirst (lits_at new.clauses id) (slice_index (lits_at old.clauses id) i) (slice_index (lits_at old.clauses id) j) ⊎ AreFirst (lits_at new.clauses id) (slice_index (lits_at old.clauses id) j) (slice_index (lits_at old.clauses id) i)
+  pub first_two : AreFirst (lits_at new.clauses id) (slice_index (lits_at old.clauses id) i) (slice_index (lits_at old.clauses id) j)
+      ⊎ AreFirst (lits_at new.clauses id) (slice_index (lits_at old.clauses id) j) (slice_index (lits_at old.clauses id) i)
 
 -- what looking at a clause told
 abbrev pub IsConsequence : List ℕ → Watched → Watched → ℕ → Consequence → Type 0
-IsConsequence trues old new s (follows.False) = (new ≡ old) × ((id : ℕ) × (c : List ℕ) × (slot_of (clauses_of old.clauses) id ≡ Some s) × (active_at (clauses_of old.clauses) id ≡ Some c) × IsTrue (is_falsified trues c))
-IsConsequence trues old new s (follows.Unit l) = (new ≡ old) × IsReason (clauses_of old.clauses) trues l s × IsFree trues l × ((id : ℕ) → slot_at old.clauses id ≡ Some s → has (lits_at old.clauses id) l ≡ true)
-IsConsequence trues old new s (follows.Quiet) = (id : ℕ) → slot_at new.clauses id ≡ Some s → IsSatisfied trues (lits_at new.clauses id) ⊎ HasTwo trues (lits_at new.clauses id)
+IsConsequence trues old new s (follows.False) = (new ≡ old) × IsFalseUnder (clauses_of old.clauses) trues s
+IsConsequence trues old new s (follows.Unit l) = (new ≡ old) × IsReason (clauses_of old.clauses) trues l s × IsFree trues l
+    × AtSlot old.clauses s (λ ls. has ls l ≡ true)
+IsConsequence trues old new s (follows.Quiet) = AtSlot new.clauses s (λ ls. IsSatisfied trues ls ⊎ HasTwo trues ls)
 
 -- ---- The entries of a list
 
 -- the last entry before this place whose blocker isn't true
 abbrev pub IsLastOpen : List ℕ → List WatchView → ℕ → Option ℕ → Type 0
 IsLastOpen trues es n None = (k : ℕ) → k < n → has trues (entry_at es k).blocker ≡ true
-IsLastOpen trues es n (Some i) = (i < n) × (has trues (entry_at es i).blocker ≡ false) × ((k : ℕ) → i < k → k < n → has trues (entry_at es k).blocker ≡ true)
+IsLastOpen trues es n (Some i) = (i < n) × (has trues (entry_at es i).blocker ≡ false)
+    × ((k : ℕ) → i < k → k < n → has trues (entry_at es k).blocker ≡ true)
 
 -- the literal at one of the first two places was exchanged for one that isn't false, and the other of the two stays
 pub record IsRewatched (trues old new : List ℕ) (place : ℕ) : Type 0 where

@@ -1,4 +1,4 @@
-use Rattle.std.proofs.Common.{◌≡◌, ap, subst, sym, ◌∙◌}
+use Rattle.std.proofs.Common.{ap, subst, sym, ◌∙◌}
 use Rattle.clause_store.specs.Clauses.{IsStore}
 use Rattle.propagation.specs.Clauses.{clauses_of}
 use Rattle.propagation.proofs.ClausesMap.{stored_slot, stored_literals}

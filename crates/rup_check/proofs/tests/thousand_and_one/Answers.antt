@@ -1,4 +1,4 @@
-use Rattle.std.proofs.Common.{◌≤◌, [], ◌∷◌, Contains, inl, inr, subst, sym}
+use Rattle.std.proofs.Common.{◌≤◌, [], ◌∷◌, Contains, inl, inr, subst}
 use Rattle.lits.specs.Literal.{var}
 use Rattle.lits.proofs.Members.{not_in_nil, here_or_there}
 use Rattle.rup_check.proofs.Assuming.{in_append}

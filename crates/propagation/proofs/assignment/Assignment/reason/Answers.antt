@@ -1,4 +1,4 @@
-use Rattle.std.proofs.Common.{◌≡◌, Some, None, length, sym, ap, ◌∙◌, arith}
+use Rattle.std.proofs.Common.{◌≡◌, Some, length, sym, ap, ◌∙◌, arith}
 use Rattle.propagation.specs.Engine.{literals, reason_in, place_in}
 use Rattle.propagation.proofs.Assigning.{reason-none}
 use Rattle.propagation.proofs.Places.{place-below, place-entry, no_place-absent}
