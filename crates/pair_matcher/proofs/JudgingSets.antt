@@ -18,7 +18,7 @@ use Rattle.session_rules.specs.declared.Rule.{Rule}
 use Rattle.session_rules.specs.declared.Rule.TheVariants as rules
 use Rattle.session_rules.specs.Logic.{closes, Closes}
 use Rattle.session_rules.specs.History.{broken_unless, order_faults, model_faults, core_faults}
-use Rattle.session_rules.specs.Own.{added_clause, active_copies, weakened_copies, active_clauses, event_of, events_of, own_faults}
+use Rattle.session_rules.specs.Own.{active_copies, weakened_copies, active_clauses, event_of, events_of, own_faults}
 use Rattle.clause_store.specs.Clauses as store
 use Rattle.clause_store.specs.Clauses.{Store}
 use Rattle.propagation.specs.Clauses as seen

@@ -13,10 +13,10 @@ ghost use Rattle.session_events.specs.State.{StandsFor, AreReserved, start, with
 
 mod clause_list;
 mod laws;
-mod ticks;
 mod rules;
 #[cfg(test)]
 mod tests;
+mod ticks;
 
 use clause_list::ClauseList;
 pub use laws::{rules_are_faults, states_stand_for_events};

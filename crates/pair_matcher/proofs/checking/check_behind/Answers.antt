@@ -3,7 +3,7 @@ use Rattle.session_rules.specs.Reading.{header_fault}
 use Rattle.session_rules.specs.Pair.{verdict_by}
 use Rattle.session_rules.specs.declared.Side.TheVariants.{Proof}
 use Rattle.session_rules.specs.declared.Verdict.TheVariants.{Refused}
-use Rattle.pair_matcher.specs.Checks.{IsBehindHeader, IsVerdictOf}
+use Rattle.pair_matcher.specs.Checks.{IsBehindHeader}
 use Rattle.pair_matcher.proofs.TwoStreams.{is_told, both_told, both_known}
 use Rattle.pair_matcher.proofs.FirstFaults.{proof_header, begins}
 use Rattle.pair_matcher.proofs.checking.check_behind.Goals as goal
