@@ -9,15 +9,15 @@ use base.Fraction.{full_share}
 use base.Logic.{ent, sep, ex}
 use base.Fml.{Fml, Lft, feq, fsep, fat, froom}
 use mir.Syntax.{ty_array}
-use mir.Val.{Val, vstruct, vcons, vnil}
+use mir.Val.{Val}
 use types.Logic.{Logic, sem}
-use types.Kit.{‵, ◌⊛◌, some, ◌$◌, ◌∵◌, !, qed, by, move, keep, drop, use1, use2, split, pick, rewrite, fsplit, fjoin, fpack, feq_l, feq_i, show, done}
+use types.Kit.{‵, ◌⊛◌, some, ◌$◌, ◌∵◌, !, qed, by, move, keep, drop, use1, use2, split, pick, rewrite, fsplit, fjoin, feq_l, feq_i, show, done}
 use borrow.Table.OneValue.{part_in, part_out}
 use denote.Array.{Array}
 use denote.ArrayMemory.{Array-apart, Array-whole}
 use denote.Index.{row, others, takes, puts, place_is, place}
 use denote.Model.Fixed.{row_Makes}
-use denote.RattleType.{RattleType, RowLaws, Valss}
+use denote.RattleType.{RattleType, RowLaws}
 use denote.Laws.{Is}
 use denote.Steps.{nothing, owned}
 use denote.Builtin.{usize}
@@ -25,9 +25,7 @@ use denote.Memory.{hidden_shr, part_at, shares}
 use denote.Opens.{shr_dup, unhide, hide}
 use denote.Plain.{uint_row_laws}
 use denote.RawPtr.{RawPtr, ptr_row_laws}
-use denote.Struct.Declared.{shape as shape_of}
-use denote.Struct.Struct.{Struct, Struct-row_laws, within}
-use denote.Struct.Tuple.{Tuple, tuple_type}
+use denote.Struct.Struct.{Struct, Struct-row_laws}
 use denote.Struct.Owning.{shape}
 use Rattle.lits.specs.contracts.Lit.{the_row as Lit}
 use Rattle.lits.proofs.Lit.TheLaws.{mir as lit_type, lowered as lit_val, the_row_plain as lit_plain}

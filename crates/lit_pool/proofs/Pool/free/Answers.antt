@@ -1,4 +1,4 @@
-use Rattle.std.proofs.Common.{◌-◌, ap, sym, ◌∙◌, arith}
+use Rattle.std.proofs.Common.{◌-◌, ap, sym, ◌∙◌}
 use Rattle.std.specs.FinMap.{len, remove}
 use Rattle.lit_pool.proofs.PiecesMap.{found, len_removed, some_live}
 use Rattle.lit_pool.proofs.Pool.free.Goals as goal

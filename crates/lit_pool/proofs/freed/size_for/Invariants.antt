@@ -1,4 +1,4 @@
-use Rattle.std.proofs.Common.{◌-◌, ◌*◌, ◌+◌, ◌≤◌}
+use Rattle.std.proofs.Common.{◌-◌, ◌≤◌}
 use Rattle.lit_pool.proofs.freed.size_for.Given as goal
 
 abbrev pub invariant-loop-units : goal.invariant-loop-units

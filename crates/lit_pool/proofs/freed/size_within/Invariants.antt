@@ -1,4 +1,3 @@
-use Rattle.std.proofs.Common.{ℕ}
 use Rattle.lit_pool.proofs.freed.size_within.Given as goal
 
 abbrev pub decreases-loop-left : goal.decreases-loop-left

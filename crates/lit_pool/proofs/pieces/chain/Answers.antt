@@ -1,4 +1,4 @@
-use Rattle.lit_pool.proofs.PiecesMap.{Chained, chained}
+use Rattle.lit_pool.proofs.PiecesMap.{chained}
 use Rattle.lit_pool.proofs.pieces.chain.Goals as goal
 
 pub returns-clause-pieces : goal.returns-clause-pieces

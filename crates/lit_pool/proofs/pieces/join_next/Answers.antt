@@ -1,4 +1,4 @@
-use Rattle.std.proofs.Common.{◌≡◌, ◌+◌, ◌*◌, ◌-◌, ◌<◌, ◌≤◌, set, refl, sym, ap, ◌∙◌, arith}
+use Rattle.std.proofs.Common.{◌≡◌, ◌+◌, ◌*◌, ◌<◌, ◌≤◌, set, refl, sym, ap, ◌∙◌, arith}
 use Rattle.lit_pool.specs.declared.kind.Kind.TheVariants.{Inside, Freed}
 use Rattle.lit_pool.specs.Pieces.{room_in, kind_at}
 use Rattle.lit_pool.proofs.Joining.{IsJoined, joined}
