@@ -49,7 +49,7 @@ module _ (status : ℕ) (old new : Option (List ℕ)) (places : Option Places) (
 
   -- with 0 the interaction is certified, and whole
   pub certifies : (ending : Ending) → Cause places left right first second ending → (¬ (status ≡ 4) → status ≡ status_of ending)
-      → IfCheck places left right (λ form a b. status ≡ 0 → Certified (events_in a))
+      → IfCheck places left right IsCertified
   certifies (Checked (Accepted queries)) cause same =
       IfCheck-map (λ form a b. Accepted queries ≡ verdict form a b) IsCertified (λ form a b is zero. (verdict_certifies form a b queries (sym is), verdict_whole form a b queries (sym is))) places left right cause.1
   certifies (Checked (Refused side line rule)) cause same = not_certified 1 (omega arith) same

@@ -57,10 +57,9 @@ pub fn write_parts<K: Sink>(
     letter: u8,
     parts: &[Part],
 ) -> Result<(), WriteFault>
-    ensures {
-        let at = writer K.written K.finished K.faults in
+    ensures { let at = writer K.written K.finished K.faults in
         WritesLine (line_text (line_words letter parts.now))
-            (at sink.old room.old) (at sink.new room.new) result }
+        (at sink.old room.old) (at sink.new room.new) result }
 {
     let Some(left) = room_behind_line(*room, parts) else {
         return Err(WriteFault::Exhausted);

@@ -142,7 +142,7 @@ module _ {S : Type 0} (form : ProofForm S) (Holds : List S → Type 0)
   unfolding verdict_by pair_refusals
   accepted_whole a b n start e = record {
     header_spells = no_header Interaction (header_fault (codes "icnf") a) (first_nil (one_refusal Interaction (header_fault (codes "icnf") a)) _
-      (first_nil (one_refusal Interaction (header_fault (codes "icnf") a) ++ one_refusal Proof (header_fault form.name b)) _ (accepted_none _ n _ e)).0).0;
+        (first_nil (one_refusal Interaction (header_fault (codes "icnf") a) ++ one_refusal Proof (header_fault form.name b)) _ (accepted_none _ n _ e)).0).0;
     lines_say = (accepted_agrees a b n start e).1;
   }
     where
