@@ -383,6 +383,8 @@ fn check_by<A: Source, B: Source, P: ProofSide>(
 /// The verdict on an interaction and a proof of this form. Each file is read once, from its start, and at most 2^62 bytes of it;
 /// the room grows with the clauses that are active or weakened, the inputs, and the longest line.
 ///
+/// The interaction's header is judged first: where it is broken, no byte of the proof is asked for.
+///
 /// # Errors
 ///
 /// `ReadInteraction` and `ReadProof` come only where that file's count of faults rose, and `Memory` is want of memory. No error
