@@ -93,9 +93,6 @@ placed-has trues l p h = elim (cases_Bool (has trues l)) [
   | inr o ↦ absurd (none-some p (sym (place-none trues l o) ∙ h))
 ]
 
-pub before-has_later : (xs : List ℕ) (a b : ℕ) → CameBefore xs a b → has xs b ≡ true
-before-has_later xs a b h = placed-has xs b h.place_two h.at_two
-
 pub before-has_earlier : (xs : List ℕ) (a b : ℕ) → CameBefore xs a b → has xs a ≡ true
 before-has_earlier xs a b h = placed-has xs a h.place_one h.at_one
 
