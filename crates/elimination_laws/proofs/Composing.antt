@@ -10,7 +10,7 @@ use Rattle.session_rules.specs.declared.Event.{Event}
 use Rattle.session_rules.specs.declared.Step.{Step}
 use Rattle.session_rules.specs.declared.Step.TheVariants as steps
 use Rattle.session_rules.specs.Logic.{same_set, is_tautology}
-use Rattle.session_rules.specs.Own.{weakened_clause, added_clause, removed_clause, events_of}
+use Rattle.session_rules.specs.Own.{weakened_clause, added_clause, removed_clause, copies, active_copies, events_of}
 use Rattle.session_rules.specs.History.{assumed}
 use Rattle.restore.specs.Resolution.{has_variable}
 use Rattle.elimination_laws.specs.Eligible.{how_many, forced, OftenAs}
@@ -20,6 +20,7 @@ use Rattle.elimination_laws.specs.Blocks.{turn, have_turns, in_turn, is_block_of
 use Rattle.elimination_laws.specs.Told.{irredundant_told, active_told, is_told_block, are_told_blocks, ToldBlocks}
 use Rattle.elimination_laws.proofs.Invariance.{OftenAs-from_test}
 use Rattle.elimination_laws.proofs.Running.{more_weakening-le, lemma_before, weakens_on, how_many-append, filter-append, Balanced-run}
+use Rattle.elimination_laws.proofs.Active.{copies-count}
 use Rattle.elimination_laws.proofs.Telling.{told_blocks, shifted}
 use Rattle.elimination_laws.proofs.Counting.{how_many-less_each}
 use Rattle.elimination_laws.proofs.Searching.{no_weakening}
@@ -216,6 +217,15 @@ pub Blocks-from_told : (irr active : List (List ℕ)) (ps run rest : List Step) 
     → ToldBlocks irr active (assumed (events_of ps)) run → Blocks (ps ++ (run ++ rest)) (length ps + 0) (length ps + length run)
 Blocks-from_told irr active ps run rest i b f o a t = let r = ToldBlocks-run irr active (assumed (events_of ps)) run t in let le : length run ≤ length run = omega arith in
     (shifted irr active ps run rest i r.turns r.ends b f o a t.0, told_blocks irr active ps run rest i r.turns r.ends b f o a 0 t.0 (length run) le t.1)
+
+-- the same where copies are counted
+pub Blocks-from_copies : (irr active : List (List ℕ)) (ps run rest : List Step) → in_part ps ≡ true → Balanced (ps ++ (run ++ rest)) (length ps)
+    → ((c : List ℕ) → copies removed_clause ps c ≤ copies added_clause ps c)
+    → OftenAs irr (irredundant (ps ++ (run ++ rest)) (length ps)) → ((c : List ℕ) → how_many (same_set c) active ≡ active_copies ps c)
+    → ToldBlocks irr active (assumed (events_of ps)) run → Blocks (ps ++ (run ++ rest)) (length ps + 0) (length ps + length run)
+Blocks-from_copies irr active ps run rest i b f o a = Blocks-from_told irr active ps run rest i b
+    (λ c. let r = copies-count removed_clause ps c in let g = copies-count added_clause ps c in let le = f c in omega arith) o
+    (λ c. let r = copies-count removed_clause ps c in let g = copies-count added_clause ps c in let e = a c in omega arith)
 
 pub Balanced-told : (irr active : List (List ℕ)) (frozen : List ℕ) (ps run rest : List Step) → in_part ps ≡ true → Balanced (ps ++ (run ++ rest)) (length ps)
     → OftenAs irr (irredundant (ps ++ (run ++ rest)) (length ps)) → ToldBlocks irr active frozen run → Balanced (ps ++ (run ++ rest)) (length ps + length run)

@@ -46,7 +46,8 @@ is_rid_of x c = not (has_variable x c) || is_tautology c
 unfoldable pub is_block_of : ℕ → List (List ℕ) → List (List ℕ) → List (List ℕ) → List ℕ → List Step → Bool
 is_block_of x irr active after frozen run =
     ((in_turn 1 run && not (closes active [])) && eligible irr frozen (forced active) x)
-    && ((are_due x irr (filter_map lemma_clause run) && list_all (λ c. has_variable x c && not (is_tautology c)) (filter_map deleted_clause run))
+    && ((are_due x irr (filter_map lemma_clause run)
+    && list_all (λ c. has_variable x c && not (is_tautology c)) (filter_map deleted_clause run))
     && (equally_often (filter_map weakened_clause run) (filter (has_variable x) irr) && list_all (is_rid_of x) after))
 
 -- the same, point by point
@@ -55,7 +56,8 @@ pub record IsBlock (x : ℕ) (irr active after : List (List ℕ)) (frozen : List
   pub unclosed : closes active [] ≡ false
   pub may_go : IsTrue (eligible irr frozen (forced active) x)
   pub writes : IsTrue (are_due x irr (filter_map lemma_clause run))
-  pub deletes : (c : List ℕ) → Contains (filter_map deleted_clause run) c → IsTrue (has_variable x c && not (is_tautology c))
+  pub deletes : (c : List ℕ) → Contains (filter_map deleted_clause run) c
+      → IsTrue (has_variable x c && not (is_tautology c))
   pub weakens : OftenAs (filter_map weakened_clause run) (filter (has_variable x) irr)
   pub gone : (c : List ℕ) → Contains after c → has_variable x c ≡ true → is_tautology c ≡ true
 
@@ -64,7 +66,8 @@ pub record IsBlock (x : ℕ) (irr active after : List (List ℕ)) (frozen : List
 -- whether the steps of a proof between the two places are an elimination block of the variable
 unfoldable pub is_block : List Step → ℕ → ℕ → ℕ → Bool
 is_block ps x b e = (in_part (take b ps) && nat_lt b e)
-    && is_block_of x (irredundant ps b) (active_clauses (take b ps)) (active_clauses (take e ps)) (assumed (events_of (take b ps))) (take (e - b) (drop b ps))
+    && is_block_of x (irredundant ps b) (active_clauses (take b ps)) (active_clauses (take e ps))
+    (assumed (events_of (take b ps))) (take (e - b) (drop b ps))
 
 -- whether blocks lead from the first place to the last: each has its variable and the place where it ends
 abbrev pub are_blocks : List Step → ℕ → List (ℕ × ℕ) → ℕ → Bool

@@ -26,7 +26,8 @@ has_few_resolvents cs x = nat_le (length (resolvents x cs)) (how_many (has_varia
 -- few resolvents
 unfoldable pub eligible : List (List ℕ) → List ℕ → List ℕ → ℕ → Bool
 eligible cs frozen assigned x =
-    (not (has_variable x frozen) && not (has_variable x assigned)) && (list_any (has_variable x) cs && (stands_in_few cs x && has_few_resolvents cs x))
+    (not (has_variable x frozen) && not (has_variable x assigned))
+    && (list_any (has_variable x) cs && (stands_in_few cs x && has_few_resolvents cs x))
 
 -- the same, condition by condition
 pub record IsEligible (cs : List (List ℕ)) (frozen assigned : List ℕ) (x : ℕ) : Type 0 where

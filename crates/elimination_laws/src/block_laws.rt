@@ -2,7 +2,7 @@
 ghost use Rattle.std.specs.Prelude.{◌≡◌, ◌-◌, ◌+◌, ◌≤◌, ℕ, true, false, ◌++◌, ◌∷◌, [], List, Contains, IsTrue, ◌↔◌, filter_map, length, take};
 ghost use Rattle.session_rules.specs.Logic.{same_set, Forced};
 ghost use Rattle.session_rules.specs.History.{assumed};
-ghost use Rattle.session_rules.specs.Own.{added_clause, removed_clause, active_clauses, events_of};
+ghost use Rattle.session_rules.specs.Own.{added_clause, removed_clause, copies, active_copies, active_clauses, events_of};
 ghost use Rattle.session_rules.specs.declared.Step.{Step};
 ghost use Rattle.restore.specs.declared.lists.Elim.{Elim};
 ghost use Rattle.restore.specs.Resolution.{has_variable, Entails};
@@ -87,11 +87,9 @@ pub fn told_blocks_end_with_a_weakening()
 pub fn told_blocks_are_blocks()
     ensures blocks { (irr active : List (List ℕ)) (ps run rest : List Step) → IsTrue (in_part ps)
         → Balanced (ps ++ (run ++ rest)) (length ps)
-        → ((c : List ℕ)
-            → how_many (same_set c) (filter_map removed_clause ps) ≤ how_many (same_set c) (filter_map added_clause ps))
+        → ((c : List ℕ) → copies removed_clause ps c ≤ copies added_clause ps c)
         → OftenAs irr (irredundant (ps ++ (run ++ rest)) (length ps))
-        → ((c : List ℕ)
-            → how_many (same_set c) active ≡ how_many (same_set c) (filter_map added_clause ps) - how_many (same_set c) (filter_map removed_clause ps))
+        → ((c : List ℕ) → how_many (same_set c) active ≡ active_copies ps c)
         → ToldBlocks irr active (assumed (events_of ps)) run
         → Blocks (ps ++ (run ++ rest)) (length ps + 0) (length ps + length run) }
     ensures balanced { (irr active : List (List ℕ)) (frozen : List ℕ) (ps run rest : List Step)

@@ -1,7 +1,12 @@
-//! Laws of the elimination of variables: eligible variables, elimination blocks, settled proofs, and what a solver writes.
+//! Laws of the elimination of variables, for a solver that eliminates at the begin of each query.
 //!
-//! Each law is the contract of a function that does nothing, so that the gate proves it. The stack and its laws stand in
-//! `restore`.
+//! They say which variables may go and that this is seen from a variable's own clauses, what the steps of
+//! an elimination keep, when a whole proof is settled, and what a session's texts have to be: its answers,
+//! its fresh lemmas, and a proof that is accepted. A solver proves what it writes by citing them step by
+//! step, so it needn't look at the proof that it has written so far.
+//!
+//! Each law is the contract of a function that does nothing, so that the gate proves it. The stack of
+//! eliminated variables and its laws stand in `restore`.
 #![tactic(auto)]
 
 mod answer_laws;
