@@ -1,9 +1,9 @@
 //! Laws of the elimination of variables, for a solver that eliminates at the begin of each query.
 //!
-//! They say which variables may go and that this is seen from a variable's own clauses, what the steps of
-//! an elimination keep, when a whole proof is settled, and what a session's texts have to be: its answers,
-//! its fresh lemmas, and a proof that is accepted. A solver proves what it writes by citing them step by
-//! step, so it needn't look at the proof that it has written so far.
+//! They say which variables may go, and that a variable's own clauses tell it; what the steps of an elimination
+//! keep; when a whole proof is settled; and what the texts of a session have to be: its answers, its fresh
+//! lemmas, and a proof that is accepted. With them a solver can prove what it writes step by step, from the
+//! clauses that it has then. That a lemma closes, and that no step has a fault of its own, are premises here.
 //!
 //! Each law is the contract of a function that does nothing, so that the gate proves it. The stack of
 //! eliminated variables and its laws stand in `restore`.
