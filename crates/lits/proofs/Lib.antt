@@ -8,3 +8,7 @@ pub mod Digits
 pub mod Back
 pub mod WordKinds
 pub mod Front
+pub mod Places
+pub mod Noted
+pub mod Translated
+mod Examples

@@ -1,3 +1,5 @@
 pub mod Literal
 pub mod Clause
 pub mod Word
+pub mod Numbering
+pub mod Dense

@@ -4,22 +4,27 @@
 //! before its own, and one more for a negation. So the two literals of a variable stand side by side in the order of
 //! codes, and negation changes one bit. Contracts see a literal as its code, a list as the list of codes, and a set as
 //! the list of its codes in ascending order.
+//!
+//! `Dense` numbers variables from 1 on in the order in which they come, and translates literals into those of the numbers.
 #![tactic(auto)]
 
 ghost use Rattle.std.specs.Prelude.{◌≡◌, ◌≤◌, ◌++◌, ◌∷◌, [], length, SomeIff, OnOk, OnErr, ◌↔◌, IsTrue};
 ghost use Rattle.lits.specs.Literal.{max_var, var, positive, neg, number, of_number, IsLiteral, IsNumber};
 
 mod laws;
+mod numbering;
 mod reading;
 mod set;
 #[cfg(test)]
 mod tests;
 
 pub use crate::laws::{
-    negation_is_an_involution, numbers_are_literals, same_set_is_an_equivalence,
-    sets_are_their_members, sorted_sets_are_unique, tests_depend_on_sets, words_are_ids,
-    words_are_literals,
+    literals_that_came_are_known, negation_is_an_involution, numbers_are_a_bijection,
+    numbers_are_literals, numbers_stay, same_set_is_an_equivalence, sets_are_their_members,
+    sorted_sets_are_unique, tests_depend_on_sets, translated_lists_keep_their_sets,
+    translated_literals_are_literals, words_are_ids, words_are_literals,
 };
+pub use crate::numbering::Dense;
 pub use crate::reading::{front_id, front_literal, front_zero, id_word, literal_word};
 pub use crate::set::LitSet;
 use std::alloc::{AllocError, Global};

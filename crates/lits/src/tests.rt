@@ -1,6 +1,8 @@
 // Words at the limits, a set and a list, and each printed form once.
 
-use crate::{IdWord, Lit, LitSet, LitWord, Lits, MAX_FILE_VAR, MAX_VAR, id_word, literal_word};
+use crate::{
+    Dense, IdWord, Lit, LitSet, LitWord, Lits, MAX_FILE_VAR, MAX_VAR, id_word, literal_word,
+};
 use std::collections::{BTreeMap, HashSet};
 use std::test::Fail;
 
@@ -134,5 +136,82 @@ fn forms_are_printed(rt: HostRuntime) -> Result<(), Fail> {
     assert_eq!(rt; text.as_str(), "LitSet { items: [Lit { code: 1 }] }");
     let mut seen = HashSet::new(rt.alloc());
     assert!(rt; seen.insert(lit(3))? && !seen.insert(lit(3))?);
+    Ok(())
+}
+
+#[test]
+fn variables_are_numbered_in_order(rt: HostRuntime) -> Result<(), Fail> {
+    let mut dense = Dense::new(rt.alloc());
+    assert_eq!(rt; dense.count(), 0);
+    assert_eq!(rt; dense.find(1), None);
+    for (var, number) in [
+        (7, 1),
+        (MAX_VAR, 2),
+        (7, 1),
+        (1, 3),
+        (MAX_VAR, 2),
+        (4097, 4),
+        (4096, 5),
+        (4097, 4),
+    ] {
+        assert_eq!(rt; dense.number(var)?, number, "at {var}");
+        assert_eq!(rt; dense.find(var), Some(number));
+    }
+    assert_eq!(rt; dense.count(), 5);
+    for var in [0, 2, 4095, 4098, MAX_VAR - 1, MAX_VAR + 1, u32::MAX] {
+        assert_eq!(rt; dense.find(var), None, "at {var}");
+    }
+    for (number, var) in [(1, 7), (2, MAX_VAR), (3, 1), (4, 4097), (5, 4096)] {
+        let back = if number <= dense.count() {
+            dense.var(number)
+        } else {
+            0
+        };
+        assert_eq!(rt; back, var, "at {number}");
+    }
+    Ok(())
+}
+
+// The variable 20,000 is far when it comes, and the table has grown over it when the last ones come.
+#[test]
+fn the_table_grows_over_a_far_variable(rt: HostRuntime) -> Result<(), Fail> {
+    let mut dense = Dense::new(rt.alloc());
+    assert_eq!(rt; dense.number(20_000)?, 1);
+    for var in 1..4000u32 {
+        assert_eq!(rt; dense.number(5 * var)?, var + 1);
+    }
+    assert_eq!(rt; dense.number(30_000)?, 4001);
+    assert_eq!(rt; dense.find(20_000), Some(1));
+    assert_eq!(rt; dense.number(20_000)?, 1);
+    assert_eq!(rt; dense.find(20_000), Some(1));
+    assert_eq!(rt; dense.count(), 4001);
+    Ok(())
+}
+
+#[test]
+fn literals_are_translated(rt: HostRuntime) -> Result<(), Fail> {
+    let mut dense = Dense::new(rt.alloc());
+    assert_eq!(rt; dense.number_lit(lit(-9))?.number(), -1);
+    assert_eq!(rt; dense.number_lit(lit(MAX_VAR as i64))?.number(), 2);
+    assert_eq!(rt; dense.number_lit(lit(9))?.number(), 1);
+    assert_eq!(rt; dense.find_lit(lit(-(MAX_VAR as i64))), Some(lit(-2)));
+    assert_eq!(rt; dense.find_lit(lit(1)), None);
+    let known = lit(-1);
+    if known.var() <= dense.count() {
+        assert_eq!(rt; dense.file_lit(known), lit(-9));
+    }
+    Ok(())
+}
+
+#[test]
+fn variables_spread_evenly_are_found(rt: HostRuntime) -> Result<(), Fail> {
+    let mut dense = Dense::new(rt.alloc());
+    for number in 1..=3000u32 {
+        assert_eq!(rt; dense.number(700_000 * number)?, number);
+    }
+    for number in 1..=3000u32 {
+        assert_eq!(rt; dense.find(700_000 * number), Some(number));
+    }
+    assert_eq!(rt; dense.find(700_001), None);
     Ok(())
 }
