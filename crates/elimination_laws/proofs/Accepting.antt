@@ -25,11 +25,11 @@ use Rattle.session_rules.specs.Lines.{Line, lines, end_line, most_bytes}
 use Rattle.session_rules.specs.Reading.{header_fault, steps_of}
 use Rattle.session_rules.specs.History.{phase, assumed, first_missing, order_faults, core_faults, broken_unless}
 use Rattle.session_rules.specs.Own.{event_of, active_clauses, own_faults, id_event_of, own_id_faults, hint_faults}
-use Rattle.session_rules.specs.Pair.{ProofForm, without_ids, with_ids, same_status, pair_faults, is_idle, faults_from, pair_refusals, is_query, verdict_by, verdict}
-use Rattle.session_rules.specs.Spelling.{text, event_words, step_words, id_step_words, header_words, IsEvent, IsStep, IsIdStep, numbered_values}
+use Rattle.session_rules.specs.Pair.{ProofForm, without_ids, with_ids, same_status, partner_count, pair_faults, is_idle, faults_from, pair_refusals, is_query, verdict_by, verdict}
+use Rattle.session_rules.specs.Spelling.{text, event_words, step_words, id_step_words, header_words, IsEvent, IsProofEvent, IsStep, IsIdStep, numbered_values}
 use Rattle.session_rules.specs.Verdicts.{StepOf, rules_of, events_among, OwnFault}
 use Rattle.session_rules.proofs.Positions.{get_dropped}
-use Rattle.session_rules.proofs.Spelled.{All-cons, IsPlainLine, icnf_line-event_words, idrup_line-step_words, lidrup_line-id_step_words, icnf_text_back, idrup_text_back, lidrup_text_back}
+use Rattle.session_rules.proofs.Spelled.{All-cons, IsPlainLine, proof_event, icnf_line-event_words, idrup_line-step_words, lidrup_line-id_step_words, icnf_text_back, idrup_text_back, lidrup_text_back}
 use Rattle.elimination_laws.specs.Accepted.{interaction_text, proof_text, IsFinished}
 use Rattle.elimination_laws.proofs.TextLines.{spelled_lines, All-first, All-more, event_plain, step_plain, id_step_plain, lines-text}
 
@@ -52,19 +52,35 @@ abbrev WithinAssumptions : List ℕ → Event → Type 0
 WithinAssumptions qs (events.Core u) = first_missing u qs ≡ None
 WithinAssumptions qs _ = ⊤
 
-no_pair_faults : (qs : List ℕ) (e : Event) → WithinAssumptions qs e → pair_faults qs e e ≡ []
+-- the line of an event
+abbrev event_line : ℕ → Event → Line
+event_line n e = record { number = n; words = event_words e; cut = false; word_cut = false }
+
+-- it is the one partner
+one_partner : (e : Event) (n : ℕ) (more : List Line) → partner_count e (event_line n e ∷ more) ≡ 1
+one_partner (events.Input c) n more = refl
+one_partner (events.Query c) n more = refl
+one_partner (events.Status s) n more = refl
+one_partner (events.Model m) n more = refl
+one_partner (events.Core u) n more = refl
+one_partner (events.Values c) n more = refl
+one_partner (events.Failed c) n more = refl
+
+no_pair_faults : (qs : List ℕ) (e : Event) → IsProofEvent e → WithinAssumptions qs e → pair_faults qs e e ≡ []
 unfolding pair_faults
-no_pair_faults qs (events.Input c) w = rw (same_set-itself c) refl
-no_pair_faults qs (events.Query c) w = rw (same_set-itself c) refl
-no_pair_faults qs (events.Status s) w = rw (same_status-itself s) refl
-no_pair_faults qs (events.Model m) w = rw (none_missing_of_itself m) refl
-no_pair_faults qs (events.Core u) w = rw (none_missing_of_itself u, w) refl
+no_pair_faults qs (events.Values c) f w = absurd f
+no_pair_faults qs (events.Failed c) f w = absurd f
+no_pair_faults qs (events.Input c) f w = rw (same_set-itself c) refl
+no_pair_faults qs (events.Query c) f w = rw (same_set-itself c) refl
+no_pair_faults qs (events.Status s) f w = rw (same_status-itself s) refl
+no_pair_faults qs (events.Model m) f w = rw (none_missing_of_itself m) refl
+no_pair_faults qs (events.Core u) f w = rw (none_missing_of_itself u, w) refl
 
 -- ---- Any form
 
 module _ {S : Type 0} (form : ProofForm S) (Fits : S → Type 0) (words_of : S → List (List ℕ))
     (back : (p : S) → Fits p → form.read (words_of p) ≡ Ok p)
-    (fits_event : (p : S) (e : Event) → form.event p ≡ Some e → Fits p → IsEvent e)
+    (fits_event : (p : S) (e : Event) → form.event p ≡ Some e → Fits p → IsProofEvent e)
     (core_within : (before : List S) (p : S) (e : Event) → form.event p ≡ Some e → form.faults before p ≡ [] → WithinAssumptions (assumed (filter_map form.event before)) e) where
   -- no step ahead has a fault behind those before it
   abbrev pub AreClean : List S → List S → Type 0
@@ -91,8 +107,11 @@ module _ {S : Type 0} (form : ProofForm S) (Fits : S → Type 0) (words_of : S �
   unfolding faults_from
   at_step before p rest end n m None es e f own next = rw (back p f, own, e) (next m)
   at_step before p rest end n m (Some x) es e f own next =
-      let i = icnf_line-event_words x (fits_event p x e f) in let q = no_pair_faults (assumed (filter_map form.event before)) x (core_within before p x e own) in
-      rw (back p f, own, e, i, q) (next (m + 1))
+      let fits = fits_event p x e f in
+      let i = icnf_line-event_words x (proof_event x fits) in
+      let q = no_pair_faults (assumed (filter_map form.event before)) x fits (core_within before p x e own) in
+      let one = one_partner x m (event_lines (m + 1) es) in
+      rw (back p f, own, e, one, i, q) (next (m + 1))
 
   at_end : (before : List S) (end : ℕ) → is_idle (phase (filter_map form.event before)) ≡ true → IsFaultless before end [] []
   unfolding faults_from
@@ -113,7 +132,7 @@ module _ {S : Type 0} (form : ProofForm S) (Fits : S → Type 0) (words_of : S �
 
   event_fits : (p : S) (ps : List S) (o : Option Event) → form.event p ≡ o → Fits p → All IsEvent (filter_map form.event ps) → All IsEvent (filter_map form.event (p ∷ ps))
   event_fits p ps None e f more = rw e more
-  event_fits p ps (Some x) e f more = rw e (All-cons IsEvent x (filter_map form.event ps) (fits_event p x e f) more)
+  event_fits p ps (Some x) e f more = rw e (All-cons IsEvent x (filter_map form.event ps) (proof_event x (fits_event p x e f)) more)
 
   events_fit : (ps : List S) → All Fits ps → All IsEvent (filter_map form.event ps)
   events_fit [] f = λ k d lt. absurd (omega arith)
@@ -175,10 +194,14 @@ step_core_within before p (events.Input c) e h = tt
 step_core_within before p (events.Query c) e h = tt
 step_core_within before p (events.Status c) e h = tt
 step_core_within before p (events.Model c) e h = tt
+step_core_within before p (events.Values c) e h = tt
+step_core_within before p (events.Failed c) e h = tt
 step_core_within before (steps.Event (events.Input c)) (events.Core v) e h = cc e
 step_core_within before (steps.Event (events.Query c)) (events.Core v) e h = cc e
 step_core_within before (steps.Event (events.Status c)) (events.Core v) e h = cc e
 step_core_within before (steps.Event (events.Model c)) (events.Core v) e h = cc e
+step_core_within before (steps.Event (events.Values c)) (events.Core v) e h = cc e
+step_core_within before (steps.Event (events.Failed c)) (events.Core v) e h = cc e
 step_core_within before (steps.Lemma c) (events.Core v) e h = cc e
 step_core_within before (steps.Delete c) (events.Core v) e h = cc e
 step_core_within before (steps.Weaken c) (events.Core v) e h = cc e
@@ -194,6 +217,8 @@ id_step_core_within before p (events.Input c) e h = tt
 id_step_core_within before p (events.Query c) e h = tt
 id_step_core_within before p (events.Status c) e h = tt
 id_step_core_within before p (events.Model c) e h = tt
+id_step_core_within before p (events.Values c) e h = tt
+id_step_core_within before p (events.Failed c) e h = tt
 id_step_core_within before (lsteps.Input id c) (events.Core v) e h = cc e
 id_step_core_within before (lsteps.Lemma id c hs) (events.Core v) e h = cc e
 id_step_core_within before (lsteps.Delete is) (events.Core v) e h = cc e
@@ -203,19 +228,19 @@ id_step_core_within before (lsteps.Query c) (events.Core v) e h = cc e
 id_step_core_within before (lsteps.Status s) (events.Core v) e h = cc e
 id_step_core_within before (lsteps.Model c) (events.Core v) e h = cc e
 
-step_event_fits : (p : Step) (e : Event) → event_of p ≡ Some e → IsStep p → IsEvent e
-step_event_fits (steps.Event x) e h f = let g : x ≡ e = cc h in subst IsEvent g f
+step_event_fits : (p : Step) (e : Event) → event_of p ≡ Some e → IsStep p → IsProofEvent e
+step_event_fits (steps.Event x) e h f = let g : x ≡ e = cc h in subst IsProofEvent g f
 step_event_fits (steps.Lemma c) e h f = cc h
 step_event_fits (steps.Delete c) e h f = cc h
 step_event_fits (steps.Weaken c) e h f = cc h
 step_event_fits (steps.Restore c) e h f = cc h
 
-id_step_event_fits : (p : LStep) (e : Event) → id_event_of p ≡ Some e → IsIdStep p → IsEvent e
-id_step_event_fits (lsteps.Input id c) e h f = let g : events.Input c ≡ e = cc h in subst IsEvent g f.1
-id_step_event_fits (lsteps.Query c) e h f = let g : events.Query c ≡ e = cc h in subst IsEvent g f
-id_step_event_fits (lsteps.Status s) e h f = let g : events.Status s ≡ e = cc h in subst IsEvent g f
-id_step_event_fits (lsteps.Model c) e h f = let g : events.Model c ≡ e = cc h in subst IsEvent g f
-id_step_event_fits (lsteps.Core c hs) e h f = let g : events.Core c ≡ e = cc h in subst IsEvent g f.0
+id_step_event_fits : (p : LStep) (e : Event) → id_event_of p ≡ Some e → IsIdStep p → IsProofEvent e
+id_step_event_fits (lsteps.Input id c) e h f = let g : events.Input c ≡ e = cc h in subst IsProofEvent g f.1
+id_step_event_fits (lsteps.Query c) e h f = let g : events.Query c ≡ e = cc h in subst IsProofEvent g f
+id_step_event_fits (lsteps.Status s) e h f = let g : events.Status s ≡ e = cc h in subst IsProofEvent g f
+id_step_event_fits (lsteps.Model c) e h f = let g : events.Model c ≡ e = cc h in subst IsProofEvent g f
+id_step_event_fits (lsteps.Core c hs) e h f = let g : events.Core c ≡ e = cc h in subst IsProofEvent g f.0
 id_step_event_fits (lsteps.Lemma id c hs) e h f = cc h
 id_step_event_fits (lsteps.Delete is) e h f = cc h
 id_step_event_fits (lsteps.Weaken is) e h f = cc h

@@ -19,7 +19,7 @@ use Rattle.session_rules.specs.declared.LStep.{LStep}
 use Rattle.session_rules.specs.declared.LStep.TheVariants as lsteps
 use Rattle.session_rules.specs.Lines.{Line, lines, lines_within, all_lines, numbered, line_of, counts, words, is_blank, is_line_feed, most_bytes}
 use Rattle.session_rules.specs.Spelling.{literal_words, id_words, status_text, event_words, step_words, id_step_words, header_words, line_text, text, AreLiterals, AreIds, IsId, IsEvent, IsStep, IsIdStep}
-use Rattle.session_rules.proofs.Spelled.{All-cons, is_plain, is_word, is_plain_word, IsPlainLine}
+use Rattle.session_rules.proofs.Spelled.{All-cons, is_plain, is_word, is_plain_word, IsPlainLine, proof_event}
 
 module _ {X : Type 0} (P : X → Type 0) where
   pub All-first : (x : X) (xs : List X) → All P (x ∷ xs) → P x
@@ -77,9 +77,11 @@ event_plain (events.Query ls) h = record { content = refl; each = literal_words_
 event_plain (events.Status s) h = record { content = refl; each = status_plain s }
 event_plain (events.Model ls) h = record { content = refl; each = literal_words_plain ls h }
 event_plain (events.Core ls) h = record { content = refl; each = literal_words_plain ls h }
+event_plain (events.Values ls) h = record { content = refl; each = literal_words_plain ls h }
+event_plain (events.Failed ls) h = record { content = refl; each = literal_words_plain ls h }
 
 pub step_plain : (p : Step) → IsStep p → IsPlainLine (step_words p)
-step_plain (steps.Event e) h = event_plain e h
+step_plain (steps.Event e) h = event_plain e (proof_event e h)
 step_plain (steps.Lemma ls) h = record { content = refl; each = literal_words_plain ls h }
 step_plain (steps.Delete ls) h = record { content = refl; each = literal_words_plain ls h }
 step_plain (steps.Weaken ls) h = record { content = refl; each = literal_words_plain ls h }

@@ -15,7 +15,7 @@ use Rattle.line_reading.specs.Readers.{Reader, PartRead, BodyRead, EndRead}
 use Rattle.line_reading.specs.Kinds.{literal_says}
 use Rattle.line_reading.specs.Whole.{ReadsBody, literals_body}
 use Rattle.line_reading.proofs.Joined.{same_fault, in_line_map, in_line_then}
-use Rattle.line_reading.proofs.Collecting.{literal_list_is, Collecting, collecting_more, collecting_last, collecting_fault}
+use Rattle.line_reading.proofs.Collecting.{literal_list_is, Collecting, collecting_none, collecting_more, collecting_last, collecting_fault}
 use Rattle.line_reading.proofs.WholeBodies.{body_then, body_fault, end_then, end_fails}
 use Rattle.icnf_lines.specs.declared.marks.Mark.{Mark}
 use Rattle.icnf_lines.specs.declared.meeting.Found.{Found}
@@ -44,6 +44,24 @@ pub record Finding (start now : List Mark) (stranger claim : Option ℕ) (old ne
   pub first_stranger : stranger ≡ find (λ l. not (mark_at start l).held) literals
   pub first_claim : claim ≡ find (λ l. not (mark_at start l).assumed) literals
   pub read : Collecting literal_list literals old new
+
+-- before the first literal
+pub finding_none : (start : List Mark) (o : Reader) → Finding start start None None o o
+finding_none start o = record {
+  literals = [];
+  marks = record { each = λ l. same_mark (mark_at start l) };
+  first_stranger = refl;
+  first_claim = refl;
+  read = collecting_none literal_list o;
+}
+  where
+    same_mark : (m : Mark) → m ≡ also_met false m
+    same_mark m = ap (λ b. let n : Mark = record m { met = b } in n) (none_more m.met m.held)
+      where
+        none_more : (b c : Bool) → b ≡ (b || (c && false))
+        none_more true c = refl
+        none_more false true = refl
+        none_more false false = refl
 
 -- the first that passes a test, with one more behind
 find_more : (test : ℕ → Bool) (ls : List ℕ) (l : ℕ) (o p : Option ℕ) (b : Bool) → o ≡ find test ls → b ≡ test l → p ≡ option_or o (cond b (Some l) None) → p ≡ find test (ls ++ l ∷ [])

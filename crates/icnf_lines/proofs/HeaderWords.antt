@@ -1,5 +1,5 @@
 -- A header by its words, and by the line that came next.
-use Rattle.std.proofs.Common.{◌≡◌, ℕ, ◌≤◌, Bool, true, false, ◌&&◌, nat_lt, if◌then◌else◌, List, [], ◌∷◌, length, Ok, Err, codes, refl, ap, ◌∙◌, subst, inl, inr, arith, ltb-true}
+use Rattle.std.proofs.Common.{◌≡◌, ℕ, ◌≤◌, Bool, true, false, ◌&&◌, nat_lt, if◌then◌else◌, List, [], ◌∷◌, length, Ok, Err, codes, refl, sym, ap, ◌∙◌, subst, inl, inr, arith, ltb-true}
 use mathlib.Core.Path.{fun_ext}
 use Rattle.std.proofs.lemmas.Bool.{cases_Bool}
 use Rattle.std.specs.Prelude.{IsErrOf}
@@ -8,22 +8,26 @@ use Rattle.std.specs.declared.result.Result.{Result}
 use Rattle.session_rules.specs.declared.Rule.{Rule}
 use Rattle.session_rules.specs.declared.Rule.TheVariants as rules
 use Rattle.session_rules.specs.declared.LineFault.{LineFault}
-use Rattle.session_rules.specs.Reading.{Fault, wrong, missing, ◌>>=◌, Part, same_word, header_line}
-use Rattle.slice_tokens.specs.Place.{Place, WhereTold}
+use Rattle.session_rules.specs.declared.LineFault.TheVariants as lines
+use Rattle.session_rules.specs.Lines.{Line, has_content, judged_words, without_cut_word}
+use Rattle.session_rules.specs.Reading.{Fault, wrong, missing, ◌>>=◌, Part, same_word, header_line, value_of, of_cut_line, of_whole_line}
+use Rattle.slice_tokens.specs.Place.{Place, WhereTold, present, lines_behind}
+use Rattle.slice_tokens.specs.Due.{known_words}
+use Rattle.slice_tokens.proofs.Places.{later_taken, passed_trans}
 use Rattle.slice_tokens.specs.declared.token.TokenFault.{TokenFault}
 use Rattle.slice_tokens.specs.declared.token.TokenFault.TheVariants as tokens
-use Rattle.slice_tokens.specs.Calls.{Moves, AtBound, Reaches}
+use Rattle.slice_tokens.specs.Calls.{Moves, InLine, AtBound, Reaches}
 use Rattle.line_reading.specs.Parts.{word_or_fault}
 use Rattle.line_reading.specs.Readers.{Reader, to_come, PartRead, BodyRead}
-use Rattle.line_reading.specs.Whole.{ReadsBody}
+use Rattle.line_reading.specs.Whole.{of_line, ReadsBody}
 use Rattle.line_reading.specs.Expected.{expected_word, expected_end}
 use Rattle.line_reading.proofs.LongWords.{other_length}
-use Rattle.line_reading.proofs.Joined.{told_map, in_line_map, in_line_then}
+use Rattle.line_reading.proofs.Joined.{told_then, told_map, moves_trans, rose_later, in_line_map, in_line_then}
 use Rattle.line_reading.proofs.WholeBodies.{with_more, body_then, body_fault}
 use Rattle.line_reading.proofs.AtBounds.{next_cut}
 use Rattle.icnf_lines.specs.declared.header.HeaderFault.{HeaderFault}
 use Rattle.icnf_lines.specs.declared.header.HeaderFault.TheVariants as headers
-use Rattle.icnf_lines.specs.Headers.{HeaderAnswers, HeaderRead, stream_fault_of}
+use Rattle.icnf_lines.specs.Headers.{HeaderAnswers, HeaderRead, SameFault, stream_fault_of}
 
 -- a word that was held against the given one
 abbrev tested : Rule → Bool → List (List ℕ) → Part (Unit {0})
@@ -129,6 +133,68 @@ not_reached : (name : List ℕ) (e : TokenFault) (o q : Place) (t u : List ℕ) 
 not_reached name tokens.Read o q t u h = inr h
 not_reached name tokens.LongWord o q t u h = absurd h
 not_reached name tokens.Length o q t u h = at_bound name o q t u h
+
+-- the words of the line that came next are the header's, or break it
+said_header : (name : List ℕ) (line : Line) (x : Result (Unit {0}) Rule) → has_content line.words ≡ true → (line.cut ≡ false → line.word_cut ≡ false)
+    → of_line line.cut (header_line name (known_words line)) ≡ x → value_of (header_line name) line ≡ x
+said_header name line x content whole e = by_cut line.cut refl e
+  where
+    by_cut : (c : Bool) → line.cut ≡ c → of_line c (header_line name (known_words line)) ≡ x
+        → (if c then of_cut_line (header_line name (judged_words line)) else of_whole_line (header_line name line.words)) ≡ x
+    by_cut true f e = ap (λ q. of_cut_line (header_line name (if q then known_words line else []))) content ∙ e
+    by_cut false f e = ap (λ q. of_whole_line (header_line name (if q then without_cut_word line.words else line.words))) (sym (whole f)) ∙ e
+
+header_entered : (name : List ℕ) (o p q : Place) (t u v : List ℕ) → q.line ≡ p.line → q.fresh ≡ false → InLine o t p u → ReadsBody (header_line name) (Ok tt) p u q v → HeaderAnswers name o t q v (Ok tt)
+header_entered name o p q t u v stays taken i k = record {
+  line = present p u;
+  lines = i.lines ∙ ap (λ ls. present p u ∷ ls) (sym (later_taken q v taken ∙ k.behind.lines));
+  value = said_header name (present p u) (Ok tt) i.content i.whole k.answer;
+  number = i.number ∙ sym stays;
+  cut = k.behind.cut ∙ i.cut;
+  last = k.behind.last ∙ i.last;
+  passed = passed_trans o p q t u v i.passed k.behind.passed;
+}
+
+header_at_fault : (name : List ℕ) (e : LineFault) (f : HeaderFault) (o p q : Place) (t u v : List ℕ) → q.line ≡ p.line → SameFault e f → InLine o t p u → ReadsBody (header_line name) (Err e) p u q v → HeaderAnswers name o t q v (Err f)
+header_at_fault name (lines.Syntax r) f o p q t u v stays same i k = subst (λ g. HeaderAnswers name o t q v (Err g)) (sym same) (inl (record {
+  line = present p u;
+  more = lines_behind p u;
+  lines = i.lines;
+  rule = said_header name (present p u) (Err r) i.content i.whole k.answer;
+  number = i.number ∙ sym stays;
+  passed = passed_trans o p q t u v i.passed k.behind.passed;
+}))
+header_at_fault name lines.Read f o p q t u v stays same i k = subst (λ g. HeaderAnswers name o t q v (Err g)) (sym same) (inl (record {
+  line = present p u;
+  lines = i.lines ∙ ap (λ ls. present p u ∷ ls) (sym k.behind.lines);
+  number = i.number ∙ sym stays;
+  cut = k.behind.cut ∙ i.cut;
+  last = k.behind.last ∙ i.last;
+  passed = passed_trans o p q t u v i.passed k.behind.passed;
+}))
+header_at_fault name lines.Memory f o p q t u v stays same i k = absurd same
+
+module _ (name : List ℕ) (o m n : Reader) (moves : Moves o.place m.place) (count : o.faults ≤ m.faults) (entered : WhereTold (to_come o) (to_come m) (λ t u. InLine o.place t m.place u)) where
+  pub header_said : n.place.fresh ≡ false → BodyRead (header_line name) m n (Ok tt) → HeaderRead name o n (Ok tt)
+  header_said taken k = record {
+    moves = moves_trans _ _ _ moves k.stays.moves;
+    told = told_then _ _ _ _ _ _ entered k.told (λ t u v i j. header_entered name o.place m.place n.place t u v k.stays.line taken i j);
+    count = omega (arith, count, k.count);
+    read = λ e. cc e;
+  }
+
+  fault_read : (e : LineFault) (f : HeaderFault) → SameFault e f → (let a : Result (Unit {0}) HeaderFault = Err f in a) ≡ Err headers.Read → (let b : Result (Unit {0}) LineFault = Err e in b) ≡ Err lines.Read
+  fault_read (lines.Syntax r) f same h = let g : f ≡ headers.Read = cc h in let k : headers.Syntax r ≡ headers.Read = sym same ∙ g in cc k
+  fault_read lines.Read f same h = refl
+  fault_read lines.Memory f same h = absurd same
+
+  pub header_broken : (e : LineFault) (f : HeaderFault) → SameFault e f → BodyRead (header_line name) m n (Err e) → HeaderRead name o n (Err f)
+  header_broken e f same k = record {
+    moves = moves_trans _ _ _ moves k.stays.moves;
+    told = told_then _ _ _ _ _ _ entered k.told (λ t u v i j. header_at_fault name e f o.place m.place n.place t u v k.stays.line same i j);
+    count = omega (arith, count, k.count);
+    read = λ g. rose_later _ _ _ count (k.read (fault_read e f same g));
+  }
 
 -- a fault of the window is a failed read only where a read failed
 failed_read : (e : TokenFault) → (let a : Result (Unit {0}) HeaderFault = Err (stream_fault_of e) in a) ≡ Err headers.Read → (let b : Result Bool TokenFault = Err e in b) ≡ Err tokens.Read

@@ -3,3 +3,5 @@ pub mod HeaderWords
 pub mod Marking
 pub mod Finding
 pub mod Pairing
+pub mod Partnering
+pub mod Running

@@ -24,7 +24,7 @@ pub record Headless (r : Rule) (old : Place) (bytes : List ℕ) (new : Place) (r
 -- the line that came next is the header of this name, or breaks it, or no line came
 abbrev pub HeaderAnswers : List ℕ → Place → List ℕ → Place → List ℕ → Result Unit HeaderFault → Type 0
 HeaderAnswers name old bytes new rest (Ok u) = Says (header_line name) tt old bytes new rest
-HeaderAnswers name old bytes new rest (Err (Syntax r)) = Breaks (header_line name) r old bytes new ⊎ (BehindCut r old bytes ⊎ Headless r old bytes new rest)
+HeaderAnswers name old bytes new rest (Err (Syntax r)) = Breaks (header_line name) r old bytes new rest ⊎ (BehindCut r old bytes new rest ⊎ Headless r old bytes new rest)
 HeaderAnswers name old bytes new rest (Err Read) = StopsInOrBefore old bytes new rest
 
 -- The next content line was sought, and held against the header of this name. Over every source the window doesn't go back,

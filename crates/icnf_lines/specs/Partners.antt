@@ -75,6 +75,8 @@ rule_of letters.Input (events.Input c) m = content_rule m.stranger m.unmet
 rule_of letters.Query (events.Query c) m = content_rule m.stranger m.unmet
 rule_of letters.Model (events.Model c) m = option_map rules.ModelPart m.stranger
 rule_of letters.Core (events.Core c) m = option_or (option_map rules.CorePart m.unmet) (option_map rules.CoreClaim m.claim)
+rule_of letters.Values (events.Model c) m = option_map rules.ModelPart m.stranger
+rule_of letters.Failed (events.Core c) m = option_map rules.FailedPart m.stranger
 rule_of _ _ m = Some rules.Kind
 
 -- a line with literals behind its letter
@@ -83,6 +85,8 @@ HasLiterals letters.Input = Unit {0}
 HasLiterals letters.Query = Unit {0}
 HasLiterals letters.Model = Unit {0}
 HasLiterals letters.Core = Unit {0}
+HasLiterals letters.Values = Unit {0}
+HasLiterals letters.Failed = Unit {0}
 HasLiterals _ = ⊥
 
 -- ---- What stands behind a letter

@@ -1,5 +1,5 @@
 // How a stream's header is read.
-ghost use Rattle.std.specs.Prelude.{◌≡◌, ◌≤◌, IsErrOf, length};
+ghost use Rattle.std.specs.Prelude.{◌≡◌, ◌≤◌, IfOk, IsErrOf, false, length};
 ghost use Rattle.session_rules.specs.Reading.{header_line};
 ghost use Rattle.session_rules.specs.declared.LineFault.{LineFault};
 ghost use Rattle.line_reading.specs.Readers.{reader, BodyRead};
@@ -28,6 +28,7 @@ fn header_words<S: Source>(window: &mut Window, src: &mut S, name: &[u8]) -> Res
     requires short { length name.now ≤ 32 }
     ensures body { let at = reader S.left S.faults in
         BodyRead (header_line name.now) (at window.old src.old) (at window.new src.new) result }
+    ensures taken { IfOk result (λ _. window.new.fresh ≡ false) }
     ensures memory { IsErrOf result LineFault.Memory → ⊥ }
 {
     match expect_word(window, src, b"p", Rule::Header) {

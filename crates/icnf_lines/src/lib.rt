@@ -6,6 +6,7 @@ mod marks;
 mod matching;
 mod meeting;
 mod reading;
+mod runs;
 mod writing;
 
 pub use header::{HeaderFault, read_header};

@@ -1,16 +1,18 @@
-// How a line of the interaction is held against the proof's event: the event's literals are marked in a table, and the
-// line's are looked up there as they come, so that no list is stored.
+// How the partners of the proof's event are held against it: the event's literals are marked in a table, and the lines' are
+// looked up there as they come, so that no list is stored.
 
-ghost use Rattle.std.specs.Prelude.{◌≡◌, ◌≤◌, ℕ, List, length, slice_get, option_map, All, IsErrOf};
+ghost use Rattle.std.specs.Prelude.{◌≡◌, ◌≤◌, ℕ, List, false, length, slice_get, option_map, All, IsErrOf};
 ghost use Rattle.std.specs.Option.{option_or};
 ghost use Rattle.lits.specs.Literal.{var};
 ghost use Rattle.session_rules.specs.declared.LineFault.{LineFault};
 ghost use Rattle.session_rules.specs.declared.Event.{Event};
 ghost use Rattle.session_rules.specs.History.{event_literals};
-ghost use Rattle.session_rules.specs.Pair.{pair_faults, same_status};
+ghost use Rattle.session_rules.specs.Pair.{pair_faults, owes_partner, same_letter, same_status};
 ghost use Rattle.line_reading.specs.Readers.{reader};
 ghost use Rattle.icnf_lines.specs.Marks.{HasPlace, IsBlank};
 ghost use Rattle.icnf_lines.specs.Matching.{LineMatched};
+ghost use Rattle.icnf_lines.specs.NextLine.{NextMatched};
+ghost use Rattle.icnf_lines.specs.Parts.{whole_letter};
 ghost use Rattle.icnf_lines.specs.Partners as partners;
 
 #[cfg(test)]
@@ -18,44 +20,50 @@ mod tests;
 
 use crate::marks::{Mark, Marks};
 use crate::meeting::{Met, meet};
-use line_reading::{enter_line, status_body};
+use crate::runs::{match_run, tells_part};
+use line_reading::{enter_line, peek_letter, status_body};
 use lits::Lit;
 use outside::Source;
 use session_rules::{Event, Letter, LineFault, Rule, StatusWord};
 use slice_tokens::Window;
 
-/// How a line of the interaction stands to the proof's event.
+/// How the partners of the proof's event stand to it.
 #[derive(Clone, Copy, Debug, PartialEq, Eq)]
 pub enum Match {
-    /// It is the event's partner, and breaks no rule.
+    /// None of them breaks a rule.
     Agrees,
-    /// No line is left.
+    /// The event owes a partner, and no line is left.
     Ended,
-    /// It breaks this rule first.
+    /// The first that isn't the event's partner breaks this rule first.
     Differs(Rule),
 }
 
-/// Why a line wasn't held against an event.
+/// Why the partners weren't held against the event.
 #[derive(Clone, Copy, Debug, PartialEq, Eq)]
 pub enum MatchFault {
-    /// The line breaks this rule of syntax.
+    /// A line breaks this rule of syntax.
     Syntax(Rule),
     /// A read failed.
     Read,
 }
 
-/// Goes to the next content line of the interaction and holds it against the proof's event, under the literals of the
-/// proof's last query. The line isn't stored, and no memory is taken: the literals are looked up in the table, which has
-/// to have room for the variables of the event and of the query.
+/// Goes on to the partners of the proof's event and holds them against it, under the literals of the proof's last query. The
+/// partner of an input, a query or a status is the next content line. Those of a model are the next line, where it begins with
+/// `m`, or else the lines with `v` that come next, which may be none; those of a core are a line with `u` or lines with `f`. No
+/// line is stored, and no memory is taken: literals are looked up in the table, which has to have room for the variables of the
+/// event and of the query, and has no mark after any answer.
 ///
-/// `Ended` comes exactly at the end of the stream. `Differs` has the first of the rules Kind, Content, Status, ModelPart,
-/// CorePart and CoreClaim that the line breaks; what it breaks of syntax comes before them.
+/// `Agrees` where no partner breaks a rule. The window then stands in the partner, or, behind lines with `v` or `f` and where
+/// there is none, before the first word of the next content line or at the end of the stream. `Ended` comes exactly where an
+/// input, a query or a status has no line left. `Differs` has the first of the rules Kind, Content, Status, ModelPart, CorePart,
+/// CoreClaim and FailedPart that the first partner at fault breaks, and the window stands in that line.
 ///
 /// # Errors
 ///
-/// `Syntax` comes exactly where the line breaks a rule of syntax, and is that of its first word at fault; the window then
-/// stands in that line. `Read` comes only where the source's count rose; the window then stands in the line that was being read,
-/// or before it where no content line was reached. The table has no mark after either.
+/// `Syntax` comes exactly where the first partner at fault breaks a rule of syntax, and is that of its first word at fault; the
+/// window then stands in that line. A line that the bound cuts before its first word ended counts as a partner, with the rule
+/// Length. `Read` comes only where the source's count rose; the window then stands in the line that was being read, or before
+/// it where its first word wasn't reached.
 pub fn match_line<S: Source>(
     window: &mut Window,
     src: &mut S,
@@ -69,12 +77,82 @@ pub fn match_line<S: Source>(
         LineMatched event.now assumed.now (at window.old src.old) (at window.new src.new) result }
     ensures marks { marks.new ≡ marks.old }
 {
+    let table = marks.table.as_mut_slice();
+    if owes_partner(event) {
+        return match_next(window, src, event, assumed, table);
+    }
+    match_told(window, src, event, assumed, table)
+}
+
+/// Whether the event needs a partner. A model and a core need none.
+fn owes_partner(event: &Event) -> bool
+    ensures { result ≡ owes_partner event.now }
+{
+    match event {
+        Event::Model(_) | Event::Core(_) => false,
+        _ => true,
+    }
+}
+
+/// Holds the lines that tell of a model or of a core against it, which may be none.
+fn match_told<S: Source>(
+    window: &mut Window,
+    src: &mut S,
+    event: &Event,
+    assumed: &[Lit],
+    table: &mut [Mark],
+) -> Result<Match, MatchFault>
+    requires free { owes_partner event.now ≡ false }
+    requires event { All (HasPlace (length table.old)) (event_literals event.now) }
+    requires assumed { All (HasPlace (length table.old)) assumed.now }
+    requires blank { IsBlank table.old }
+    ensures line { let at = reader S.left S.faults in
+        LineMatched event.now assumed.now (at window.old src.old) (at window.new src.new) result }
+    ensures blank { IsBlank table.new }
+{
+    match peek_letter(window, src) {
+        Ok(Some(letter)) => {
+            if tells_whole(event, letter) {
+                return match_next(window, src, event, assumed, table);
+            }
+            if tells_part(event, letter) {
+                return match_run(window, src, event, table);
+            }
+            Ok(Match::Agrees)
+        }
+        Ok(None) => Ok(Match::Agrees),
+        Err(fault) => Err(match_fault(fault)),
+    }
+}
+
+/// Whether a line with this letter tells all of the event, which is a model or a core.
+fn tells_whole(event: &Event, letter: Letter) -> bool
+    ensures { result ≡ same_letter letter (whole_letter event.now) }
+{
+    match event {
+        Event::Core(_) => matches!(letter, Letter::Core),
+        _ => matches!(letter, Letter::Model),
+    }
+}
+
+/// Goes to the next content line and holds it against the event. `Ended` comes exactly at the end of the stream.
+fn match_next<S: Source>(
+    window: &mut Window,
+    src: &mut S,
+    event: &Event,
+    assumed: &[Lit],
+    table: &mut [Mark],
+) -> Result<Match, MatchFault>
+    requires event { All (HasPlace (length table.old)) (event_literals event.now) }
+    requires assumed { All (HasPlace (length table.old)) assumed.now }
+    requires blank { IsBlank table.old }
+    ensures line { let at = reader S.left S.faults in
+        NextMatched event.now assumed.now (at window.old src.old) (at window.new src.new) result }
+    ensures blank { IsBlank table.new }
+{
     match enter_line(window, src) {
         Ok(None) => Ok(Match::Ended),
-        Ok(Some(letter)) => {
-            let table = marks.table.as_mut_slice();
-            answer_of(partner_rule(window, src, letter, event, assumed, table))
-        }
+        Ok(Some(letter)) => answer_of(partner_rule(window, src, letter, event, assumed, table)),
         Err(fault) => Err(match_fault(fault)),
     }
 }
@@ -91,7 +169,7 @@ fn answer_of(rule: Result<Option<Rule>, LineFault>) -> Result<Match, MatchFault>
 }
 
 /// The fault of a line, which isn't want of memory.
-fn match_fault(fault: LineFault) -> MatchFault
+pub(crate) fn match_fault(fault: LineFault) -> MatchFault
     ensures { result ≡ partners.match_fault fault }
 {
     match fault {
@@ -119,9 +197,12 @@ fn partner_rule<S: Source>(
     ensures memory { IsErrOf result LineFault.Memory → ⊥ }
 {
     match letter {
-        Letter::Input | Letter::Query | Letter::Model | Letter::Core => literals_rule(
-            window, src, letter, event, assumed, table,
-        ),
+        Letter::Input
+        | Letter::Query
+        | Letter::Model
+        | Letter::Core
+        | Letter::Values
+        | Letter::Failed => literals_rule(window, src, letter, event, assumed, table),
         Letter::Status => match status_body(window, src) {
             Ok(status) => Ok(status_rule(event, status)),
             Err(fault) => Err(fault),
@@ -221,6 +302,14 @@ fn rule_of(letter: Letter, event: &Event, met: Met) -> Option<Rule>
             Event::Core(_) => core_rule(met.unmet, met.claim),
             _ => Some(Rule::Kind),
         },
+        Letter::Values => match event {
+            Event::Model(_) => model_rule(met.stranger),
+            _ => Some(Rule::Kind),
+        },
+        Letter::Failed => match event {
+            Event::Core(_) => failed_rule(met.stranger),
+            _ => Some(Rule::Kind),
+        },
         _ => Some(Rule::Kind),
     }
 }
@@ -239,7 +328,7 @@ fn content_rule(stranger: Option<Lit>, unmet: Option<Lit>) -> Option<Rule>
 }
 
 /// ModelPart, where the line has a literal that the event lacks.
-fn model_rule(stranger: Option<Lit>) -> Option<Rule>
+pub(crate) fn model_rule(stranger: Option<Lit>) -> Option<Rule>
     ensures { result ≡ option_map Rule.ModelPart stranger }
 {
     match stranger {
@@ -258,5 +347,15 @@ fn core_rule(unmet: Option<Lit>, claim: Option<Lit>) -> Option<Rule>
             Some(l) => Some(Rule::CoreClaim(l)),
             None => None,
         },
+    }
+}
+
+/// FailedPart, where the line has a literal that the event lacks.
+pub(crate) fn failed_rule(stranger: Option<Lit>) -> Option<Rule>
+    ensures { result ≡ option_map Rule.FailedPart stranger }
+{
+    match stranger {
+        Some(l) => Some(Rule::FailedPart(l)),
+        None => None,
     }
 }

@@ -105,13 +105,13 @@ pub(crate) fn meet<S: Source>(
 
 /// The first of a line's literals that isn't held, and the first that isn't assumed.
 #[derive(Clone, Copy)]
-struct Found {
-    stranger: Option<Lit>,
-    claim: Option<Lit>,
+pub(crate) struct Found {
+    pub(crate) stranger: Option<Lit>,
+    pub(crate) claim: Option<Lit>,
 }
 
 /// Reads the body of a line, literals and a 0, and marks the literals as met that are held.
-fn find_literals<S: Source>(
+pub(crate) fn find_literals<S: Source>(
     window: &mut Window,
     src: &mut S,
     table: &mut [Mark],

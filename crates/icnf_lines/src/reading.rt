@@ -26,6 +26,8 @@ pub fn read_event<S: Source>(
         Letter::Status => Ok(Event::Status(status_body(window, src)?)),
         Letter::Model => Ok(Event::Model(literals_body(spare, window, src)?)),
         Letter::Core => Ok(Event::Core(literals_body(spare, window, src)?)),
+        Letter::Values => Ok(Event::Values(literals_body(spare, window, src)?)),
+        Letter::Failed => Ok(Event::Failed(literals_body(spare, window, src)?)),
         _ => {
             window.recall_bounds();
             Err(LineFault::Syntax(Rule::Letter))

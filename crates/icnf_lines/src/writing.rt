@@ -38,5 +38,7 @@ pub fn write_line<K: Sink>(sink: &mut K, room: &mut u64, event: &Event) -> Resul
         Event::Status(s) => write_parts(sink, room, b's', &[Part::Word(status_word(*s))]),
         Event::Model(lits) => write_parts(sink, room, b'm', &[Part::Lits(lits.as_slice())]),
         Event::Core(lits) => write_parts(sink, room, b'u', &[Part::Lits(lits.as_slice())]),
+        Event::Values(lits) => write_parts(sink, room, b'v', &[Part::Lits(lits.as_slice())]),
+        Event::Failed(lits) => write_parts(sink, room, b'f', &[Part::Lits(lits.as_slice())]),
     }
 }

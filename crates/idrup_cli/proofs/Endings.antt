@@ -8,6 +8,7 @@ use Rattle.session_rules.specs.declared.Rule.{Rule}
 use Rattle.session_rules.specs.declared.Verdict.{Verdict}
 use Rattle.session_rules.specs.declared.Verdict.TheVariants.{Accepted, Refused}
 use Rattle.session_rules.specs.Pair.{verdict, Certified, events_in}
+use Rattle.session_rules.specs.Verdicts.{events_among, steps_in}
 use Rattle.session_laws.specs.Refusals.{IsWhole}
 use Rattle.session_laws.proofs.Accepted.{verdict_certifies, verdict_whole}
 use Rattle.idrup_cli.specs.declared.plan.Places.{Places}
@@ -34,7 +35,7 @@ IfCheck-all P all (Some places) (Some a) (Some b) = λ check. all places.form a 
 
 module _ (status : ℕ) (old new : Option (List ℕ)) (places : Option Places) (left right : Option (List ℕ)) (first second : ℕ × ℕ) where
   abbrev IsCertified : Form → List ℕ → List ℕ → Type 0
-  IsCertified form a b = status ≡ 0 → Certified (events_in a) × IsWhole a
+  IsCertified form a b = status ≡ 0 → Certified (events_in a) (events_among form (steps_in form b)) × IsWhole a
 
   abbrev IsRefused : Form → List ℕ → List ℕ → Type 0
   IsRefused form a b = status ≡ 1 → (side : Side) × (line : ℕ) × (rule : Rule) × (verdict form a b ≡ Refused side line rule)

@@ -67,6 +67,7 @@ rule_name (rules.CorePart l) = codes "CorePart"
 rule_name (rules.CoreClaim l) = codes "CoreClaim"
 rule_name rules.Unfinished = codes "Unfinished"
 rule_name rules.Surplus = codes "Surplus"
+rule_name (rules.FailedPart l) = codes "FailedPart"
 
 -- the word of a rule's detail, where it has one
 abbrev pub rule_detail : Rule → List (List ℕ)
@@ -80,6 +81,7 @@ rule_detail (rules.CoreStranger l) = literal_text l ∷ []
 rule_detail (rules.ModelPart l) = literal_text l ∷ []
 rule_detail (rules.CorePart l) = literal_text l ∷ []
 rule_detail (rules.CoreClaim l) = literal_text l ∷ []
+rule_detail (rules.FailedPart l) = literal_text l ∷ []
 rule_detail _ = []
 
 -- words, each behind a space

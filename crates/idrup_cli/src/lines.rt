@@ -58,6 +58,7 @@ fn name_of_rule(rule: &Rule) -> &'static [u8]
         Rule::CoreClaim(_) => b"CoreClaim",
         Rule::Unfinished => b"Unfinished",
         Rule::Surplus => b"Surplus",
+        Rule::FailedPart(_) => b"FailedPart",
     }
 }
 
@@ -77,7 +78,8 @@ fn push_detail(line: &mut Line, rule: &Rule)
         | Rule::CoreStranger(l)
         | Rule::ModelPart(l)
         | Rule::CorePart(l)
-        | Rule::CoreClaim(l) => {
+        | Rule::CoreClaim(l)
+        | Rule::FailedPart(l) => {
             line.push(b" ");
             line.push_literal(*l);
         }

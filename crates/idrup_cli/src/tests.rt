@@ -155,6 +155,10 @@ fn each_rule_has_its_text(rt: HostRuntime) {
         ),
         (Rule::Unfinished, "refused proof 1 Unfinished\n"),
         (Rule::Surplus, "refused proof 1 Surplus\n"),
+        (
+            Rule::FailedPart(lit(&rt, -100)),
+            "refused proof 1 FailedPart -100\n",
+        ),
     ];
     for (rule, text) in texts {
         let verdict = Verdict::Refused {

@@ -7,6 +7,7 @@ ghost use Rattle.session_rules.specs.declared.Side.{Side as SideData};
 ghost use Rattle.session_rules.specs.declared.Rule.{Rule as RuleData};
 ghost use Rattle.session_rules.specs.declared.Verdict.TheVariants.{Accepted, Refused};
 ghost use Rattle.session_rules.specs.Pair.{verdict, Certified, events_in};
+ghost use Rattle.session_rules.specs.Verdicts.{events_among, steps_in};
 ghost use Rattle.session_laws.specs.Refusals.{IsWhole};
 ghost use Rattle.pair_matcher.specs.Checks.{HasBrokenHeader};
 ghost use Rattle.idrup_cli.specs.declared.ending.Ending.{Ending as EndingData};
@@ -65,8 +66,8 @@ pub fn run<A: Source, B: Source, C: Sink, D: Sink, E: Sink>(
     proof: &mut D,
     report: &mut E,
 ) -> u8
-    // 0 and 1 of a check are the verdict on the bytes of both sources, told whole. An accepted interaction is certified,
-    // and each of its lines is spelled and held against the proof.
+    // 0 and 1 of a check are the verdict on the bytes of both sources, told whole. An accepted interaction is certified
+    // by its proof, and each of its lines is spelled and held against the proof.
     ensures accepted { IfCheck (plan (map string_bytes words.now)) (A.left first.old) (B.left second.old) (λ form a b.
         result ≡ 0 → (queries : ℕ) × (verdict form a b ≡ Accepted queries)
         × Appends (E.written report.old) (E.written report.new) (line_of (Ending.Checked (Accepted queries)))) }
@@ -74,7 +75,7 @@ pub fn run<A: Source, B: Source, C: Sink, D: Sink, E: Sink>(
         result ≡ 1 → (side : SideData) × (line : ℕ) × (rule : RuleData) × (verdict form a b ≡ Refused side line rule)
         × Appends (E.written report.old) (E.written report.new) (line_of (Ending.Checked (Refused side line rule)))) }
     ensures certified { IfCheck (plan (map string_bytes words.now)) (A.left first.old) (B.left second.old) (λ form a b.
-        result ≡ 0 → Certified (events_in a) × IsWhole a) }
+        result ≡ 0 → Certified (events_in a) (events_among form (steps_in form b)) × IsWhole a) }
     ensures finished { result ≤ 1 → Becomes (E.finished report.old) (E.finished report.new) true }
 
     // A check comes to a verdict where no count rose and memory was there.

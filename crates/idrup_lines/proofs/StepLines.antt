@@ -23,24 +23,27 @@ as_event (Err f) = refl
 
 -- any other letter is that of an event, or of no line
 event_step : (letter : Letter) → (letter ≡ letters.Lemma → ⊥) → (letter ≡ letters.Deletion → ⊥) → (letter ≡ letters.Weakening → ⊥) → (letter ≡ letters.Restoring → ⊥)
-    → (ws : List (List ℕ)) → step_at letter ws ≡ mapped steps.Event (event_at letter ws)
-event_step letters.Lemma l d w r ws = absurd (l refl)
-event_step letters.Deletion l d w r ws = absurd (d refl)
-event_step letters.Weakening l d w r ws = absurd (w refl)
-event_step letters.Restoring l d w r ws = absurd (r refl)
-event_step letters.Input l d w r ws = as_event (event_at letters.Input ws)
-event_step letters.Query l d w r ws = as_event (event_at letters.Query ws)
-event_step letters.Status l d w r ws = as_event (event_at letters.Status ws)
-event_step letters.Model l d w r ws = as_event (event_at letters.Model ws)
-event_step letters.Core l d w r ws = as_event (event_at letters.Core ws)
-event_step letters.NoLetter l d w r ws = as_event (event_at letters.NoLetter ws)
+    → (letter ≡ letters.Values → ⊥) → (letter ≡ letters.Failed → ⊥) → (ws : List (List ℕ)) → step_at letter ws ≡ mapped steps.Event (event_at letter ws)
+event_step letters.Lemma l d w r v f ws = absurd (l refl)
+event_step letters.Deletion l d w r v f ws = absurd (d refl)
+event_step letters.Weakening l d w r v f ws = absurd (w refl)
+event_step letters.Restoring l d w r v f ws = absurd (r refl)
+event_step letters.Values l d w r v f ws = absurd (v refl)
+event_step letters.Failed l d w r v f ws = absurd (f refl)
+event_step letters.Input l d w r v f ws = as_event (event_at letters.Input ws)
+event_step letters.Query l d w r v f ws = as_event (event_at letters.Query ws)
+event_step letters.Status l d w r v f ws = as_event (event_at letters.Status ws)
+event_step letters.Model l d w r v f ws = as_event (event_at letters.Model ws)
+event_step letters.Core l d w r v f ws = as_event (event_at letters.Core ws)
+event_step letters.NoLetter l d w r v f ws = as_event (event_at letters.NoLetter ws)
 
-module _ (letter : Letter) (l : letter ≡ letters.Lemma → ⊥) (d : letter ≡ letters.Deletion → ⊥) (w : letter ≡ letters.Weakening → ⊥) (r : letter ≡ letters.Restoring → ⊥) where
+module _ (letter : Letter) (l : letter ≡ letters.Lemma → ⊥) (d : letter ≡ letters.Deletion → ⊥) (w : letter ≡ letters.Weakening → ⊥) (r : letter ≡ letters.Restoring → ⊥)
+    (v : letter ≡ letters.Values → ⊥) (f : letter ≡ letters.Failed → ⊥) where
   pub event_read : (x : Event) (o n : Reader) → BodyRead (event_at letter) o n (Ok x) → BodyRead (step_at letter) o n (Ok (steps.Event x))
-  event_read x o n h = body_as (event_at letter) (step_at letter) steps.Event (event_step letter l d w r) x o n h
+  event_read x o n h = body_as (event_at letter) (step_at letter) steps.Event (event_step letter l d w r v f) x o n h
 
   pub event_fault : (e : LineFault) (o n : Reader) → BodyRead (event_at letter) o n (Err e) → BodyRead (step_at letter) o n (Err e)
-  event_fault e o n h = body_fails (event_at letter) (step_at letter) steps.Event (event_step letter l d w r) e o n h
+  event_fault e o n h = body_fails (event_at letter) (step_at letter) steps.Event (event_step letter l d w r v f) e o n h
 
 -- the lines of a proof by literals are read by their letter
 pub idrup_line_is : (ws : List (List ℕ)) → by_letter step_at ws ≡ idrup_line ws

@@ -8,7 +8,7 @@ mod tests;
 use icnf_lines::read_event;
 use line_reading::{Spare, enter_line, literals_body};
 use outside::Source;
-use session_rules::{Letter, LineFault, Step};
+use session_rules::{Letter, LineFault, Rule, Step};
 use slice_tokens::Window;
 
 // What stands in a line behind its letter.
@@ -26,6 +26,10 @@ fn read_step<S: Source>(
         Letter::Deletion => Ok(Step::Delete(literals_body(spare, window, src)?)),
         Letter::Weakening => Ok(Step::Weaken(literals_body(spare, window, src)?)),
         Letter::Restoring => Ok(Step::Restore(literals_body(spare, window, src)?)),
+        Letter::Values | Letter::Failed => {
+            window.recall_bounds();
+            Err(LineFault::Syntax(Rule::Letter))
+        }
         _ => Ok(Step::Event(read_event(spare, window, src, letter)?)),
     }
 }

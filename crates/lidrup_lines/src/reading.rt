@@ -42,7 +42,7 @@ fn read_step<S: Source>(
         Letter::Deletion => Ok(LStep::Delete(ids_body(spare, window, src)?)),
         Letter::Weakening => Ok(LStep::Weaken(ids_body(spare, window, src)?)),
         Letter::Restoring => Ok(LStep::Restore(ids_body(spare, window, src)?)),
-        Letter::NoLetter => {
+        Letter::Values | Letter::Failed | Letter::NoLetter => {
             window.recall_bounds();
             Err(LineFault::Syntax(Rule::Letter))
         }

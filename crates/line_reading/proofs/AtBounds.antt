@@ -17,9 +17,9 @@ module _ {A : Type 0} (read : List (List ℕ) → Result A Fault) where
       ∙ ap (λ k. of_cut_line (read (if k then known_words line else []))) f ∙ ap of_cut_line e
 
   -- the bound was met before a line with content
-  pub next_cut : (none : Rule) → read [] ≡ Err (missing none) → (o q : Place) (t v : List ℕ) → AtBound o t q v → Breaks read rules.Length o t q ⊎ BehindCut rules.Length o t
+  pub next_cut : (none : Rule) → read [] ≡ Err (missing none) → (o q : Place) (t v : List ℕ) → AtBound o t q v → Breaks read rules.Length o t q v ⊎ BehindCut rules.Length o t q v
   next_cut none e o q t v h = by_lines (later o t) refl h.only
     where
-      by_lines : (ls : List Line) → later o t ≡ ls → OnlyCut ls (last_line o t) → Breaks read rules.Length o t q ⊎ BehindCut rules.Length o t
-      by_lines [] f k = inr (record { lines = f; cut = h.cut; rule = refl })
-      by_lines (line ∷ more) f k = inl (record { line = line; more = more; lines = f; rule = cut_said none e line k.1 k.2; number = k.3 ∙ sym h.line })
+      by_lines : (ls : List Line) → later o t ≡ ls → OnlyCut ls (last_line o t) → Breaks read rules.Length o t q v ⊎ BehindCut rules.Length o t q v
+      by_lines [] f k = inr (record { lines = f; cut = h.cut; rule = refl; passed = h.behind.passed })
+      by_lines (line ∷ more) f k = inl (record { line = line; more = more; lines = f; rule = cut_said none e line k.1 k.2; number = k.3 ∙ sym h.line; passed = h.behind.passed })

@@ -12,9 +12,11 @@ use Rattle.session_rules.specs.declared.LineFault.{LineFault}
 use Rattle.session_rules.specs.declared.LineFault.TheVariants.{Syntax, Read, Memory}
 use Rattle.session_rules.specs.Lines.{Line, judged_words}
 use Rattle.session_rules.specs.Reading.{Fault, wrong, ◌>>=◌, Part, letter_of, by_letter, of_whole_line, of_cut_line, value_of, whole, literal_list, id_list, status_word, of_literals, of_ids, of_status}
-use Rattle.slice_tokens.specs.Place.{Place, present, later}
+use Rattle.slice_tokens.specs.Place.{Place, present, lines_behind}
 use Rattle.slice_tokens.specs.Due.{known_words}
 use Rattle.slice_tokens.specs.Calls.{SameLater}
+use Rattle.slice_tokens.proofs.Places.{later_taken, passed_trans}
+use Rattle.line_reading.specs.Parts.{Stays}
 use Rattle.line_reading.specs.Whole.{of_line, Tells, ReadsBody, literals_body, ids_body, status_body, Says, StandsInLine, LineAnswers, Entered, NoLetterIn, Enters}
 use Rattle.line_reading.specs.Readers.{Reader, BodyRead, LetterRead, LineRead}
 use Rattle.line_reading.proofs.Joined.{told_then, told_map, moves_trans, rose_later, same_fault, in_line_map}
@@ -63,23 +65,24 @@ module _ {A : Type 0} (at : Letter → List (List ℕ) → Result A Fault) (none
   said letter o p t u e = begun e.line e.word (known_words (present p u)) e.judged e.whole_words
       ∙ ap (λ l. of_line e.line.cut (at l (known_words (present p u)))) e.is_letter ∙ ap (λ c. of_line c (at letter (known_words (present p u)))) (sym e.same_cut)
 
-  pub line_says : (letter : Letter) (x : A) (o p q : Place) (t u v : List ℕ) → q.line ≡ p.line → Entered letter o t p u → ReadsBody (at letter) (Ok x) p u q v → Says (by_letter at) x o t q v
+  pub line_says : (letter : Letter) (x : A) (o p q : Place) (t u v : List ℕ) → Stays p q → Entered letter o t p u → ReadsBody (at letter) (Ok x) p u q v → Says (by_letter at) x o t q v
   line_says letter x o p q t u v stays e k = record {
     line = e.line;
-    lines = e.lines ∙ ap (λ ls. e.line ∷ ls) (sym k.behind.later);
+    lines = e.lines ∙ ap (λ ls. e.line ∷ ls) (sym (later_taken q v (stays.taken e.taken) ∙ k.behind.lines));
     value = said letter o p t u e ∙ k.answer;
-    number = e.number ∙ sym stays;
+    number = e.number ∙ sym stays.line;
     cut = k.behind.cut ∙ e.cut;
     last = k.behind.last ∙ e.last;
+    passed = passed_trans o p q t u v e.passed k.behind.passed;
   }
 
   -- the window is still in the line that was entered
   stands_in : (letter : Letter) (o p q : Place) (t u v : List ℕ) → q.line ≡ p.line → Entered letter o t p u → SameLater p u q v → StandsInLine o t q v
-  stands_in letter o p q t u v stays e b = record { line = e.line; lines = e.lines ∙ ap (λ ls. e.line ∷ ls) (sym b.later); number = e.number ∙ sym stays; cut = b.cut ∙ e.cut; last = b.last ∙ e.last }
+  stands_in letter o p q t u v stays e b = record { line = e.line; lines = e.lines ∙ ap (λ ls. e.line ∷ ls) (sym b.lines); number = e.number ∙ sym stays; cut = b.cut ∙ e.cut; last = b.last ∙ e.last; passed = passed_trans o p q t u v e.passed b.passed }
 
   breaks_by : (letter : Letter) (fault : LineFault) (o p q : Place) (t u v : List ℕ) → q.line ≡ p.line → Entered letter o t p u → SameLater p u q v
       → Tells (of_line (present p u).cut (at letter (known_words (present p u)))) (Err fault) → LineAnswers (by_letter at) o t q v (Err fault)
-  breaks_by letter (Syntax r) o p q t u v stays e b k = inl (record { line = e.line; more = later p u; lines = e.lines; rule = said letter o p t u e ∙ k; number = e.number ∙ sym stays })
+  breaks_by letter (Syntax r) o p q t u v stays e b k = inl (record { line = e.line; more = lines_behind p u; lines = e.lines; rule = said letter o p t u e ∙ k; number = e.number ∙ sym stays; passed = passed_trans o p q t u v e.passed b.passed })
   breaks_by letter Read o p q t u v stays e b k = inl (stands_in letter o p q t u v stays e b)
   breaks_by letter Memory o p q t u v stays e b k = stands_in letter o p q t u v stays e b
 
@@ -97,7 +100,7 @@ module _ {A : Type 0} (at : Letter → List (List ℕ) → Result A Fault) (none
       ∙ ap (λ us. of_cut_line (by_letter at us)) n.0 ∙ ap (λ z. Err z) (sym n.2)
 
   pub line_unentered : (fault : LineFault) (o q : Place) (t v : List ℕ) → Enters o t q v (Err fault) → LineAnswers (by_letter at) o t q v (Err fault)
-  line_unentered (Syntax r) o q t v (inl u) = inl (record { line = u.line; more = u.more; lines = u.lines; rule = no_letter_breaks u.line r u.reason; number = u.number })
+  line_unentered (Syntax r) o q t v (inl u) = inl (record { line = u.line; more = u.more; lines = u.lines; rule = no_letter_breaks u.line r u.reason; number = u.number; passed = u.passed })
   line_unentered (Syntax r) o q t v (inr b) = inr b
   line_unentered Read o q t v h = h
   line_unentered Memory o q t v h = h
@@ -120,7 +123,7 @@ module _ {A : Type 0} (at : Letter → List (List ℕ) → Result A Fault) (none
   line_read letter x o m n h k = record {
     moves = moves_trans _ _ _ h.moves k.stays.moves;
     progress = λ _. omega (arith, h.progress refl, k.stays.moves.passed);
-    told = told_then _ _ _ _ _ _ h.told k.told (λ t u v e j. as_read (Ok (Some x)) o.place n.place t v (line_says at none letter x o.place m.place n.place t u v k.stays.line e j));
+    told = told_then _ _ _ _ _ _ h.told k.told (λ t u v e j. as_read (Ok (Some x)) o.place n.place t v (line_says at none letter x o.place m.place n.place t u v k.stays e j));
     count = omega (arith, h.count, k.count);
     read = λ e. cc e;
   }

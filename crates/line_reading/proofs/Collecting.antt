@@ -21,6 +21,7 @@ use Rattle.session_rules.specs.Reading.{Fault, wrong, missing, Part, literal_lis
 use Rattle.slice_tokens.specs.Place.{Place, WhereTold, present}
 use Rattle.slice_tokens.specs.Due.{known_words}
 use Rattle.slice_tokens.specs.Calls.{SameLater}
+use Rattle.slice_tokens.proofs.Told.{later_refl, later_trans}
 use Rattle.line_reading.specs.Parts.{PartAnswers, SameLine, ReadsPart, Stays, word_part, word_or_fault}
 use Rattle.line_reading.specs.Kinds.{literal_says, literal_or_rule, id_says, listed_or_rule, own_id_says, own_or_rule, status_says}
 use Rattle.line_reading.specs.Readers.{Reader, to_come, PartRead}
@@ -69,9 +70,6 @@ id_list-cons w ws = by_word (id_word w) (id_list ws)
     by_word (ids.Value l) (Err e) = refl
     by_word ids.NotNumber more = refl
     by_word ids.OutOfRange more = refl
-
-pub later_trans : (o p q : Place) (t u v : List ℕ) → SameLater o t p u → SameLater p u q v → SameLater o t q v
-later_trans o p q t u v h k = record { later = k.later ∙ h.later; cut = k.cut ∙ h.cut; last = k.last ∙ h.last }
 
 -- what is read of a list, from its beginning to here
 pub record Collects (list : List (List ℕ) → Part (List ℕ)) (xs : List ℕ) (old : Place) (bytes : List ℕ) (new : Place) (rest : List ℕ) : Type 0 where
@@ -178,7 +176,7 @@ module _ (list : List (List ℕ) → Part (List ℕ)) (says : List ℕ → Resul
 -- ---- The loop over a list's words
 
 pub Collects-start : (list : List (List ℕ) → Part (List ℕ)) (p : Place) (t : List ℕ) → Collects list [] p t p t
-Collects-start list p t = record { so_far = sym (in_front-nil (list (known_words (present p t)))); line = record { number = refl; cut = refl }; behind = record { later = refl; cut = refl; last = refl } }
+Collects-start list p t = record { so_far = sym (in_front-nil (list (known_words (present p t)))); line = record { number = refl; cut = refl }; behind = later_refl p t }
 
 -- a call that didn't fail did what it does on success
 pub succeeded : {T E : Type 0} (r : Result T E) (P : Type 0) → is_err r ≡ false → OnOk r P → P
@@ -190,6 +188,7 @@ pub record Collecting (list : List (List ℕ) → Part (List ℕ)) (xs : List �
   pub passed : old.place.passed ≤ new.place.passed
   pub line : new.place.line ≡ old.place.line
   pub standing : new.place.standing ≡ old.place.standing
+  pub taken : old.place.fresh ≡ false → new.place.fresh ≡ false
   pub ended : old.place.ended ≡ true → new.place.ended ≡ true
   pub told : WhereTold (to_come old) (to_come new) (λ t u. Collects list xs old.place t new.place u)
   pub count : old.faults ≤ new.faults
@@ -199,6 +198,7 @@ collecting_none list o = record {
   passed = omega arith;
   line = refl;
   standing = refl;
+  taken = λ e. e;
   ended = λ e. e;
   told = told_at_start (to_come o) (λ t u. Collects list [] o.place t o.place u) (Collects-start list o.place);
   count = omega arith;
@@ -215,6 +215,7 @@ stays_after list xs o m n h k = record {
   };
   line = k.line ∙ h.line;
   standing = k.standing ∙ h.standing;
+  taken = λ e. k.taken (h.taken e);
 }
 
 module _ (list : List (List ℕ) → Part (List ℕ)) (says : List ℕ → Result (Option ℕ) Rule) (kind : IsList list says) (xs : List ℕ) (o m n : Reader) (h : Collecting list xs o m) where
@@ -227,6 +228,7 @@ module _ (list : List (List ℕ) → Part (List ℕ)) (says : List ℕ → Resul
     passed = omega (arith, h.passed, k.stays.moves.passed);
     line = k.stays.line ∙ h.line;
     standing = k.stays.standing ∙ h.standing;
+    taken = λ e. k.stays.taken (h.taken e);
     ended = λ e. k.stays.moves.ended (h.ended e);
     told = told_then _ _ _ _ _ _ h.told k.told (λ t u v i j. collects_more list says kind xs x o.place m.place n.place t u v i j);
     count = omega (arith, h.count, k.count);
@@ -248,6 +250,15 @@ module _ (list : List (List ℕ) → Part (List ℕ)) (says : List ℕ → Resul
     told = told_then _ _ _ _ _ _ h.told k.told (λ t u v i j. collects_fault list says kind xs e o.place m.place n.place t u v i j);
     count = omega (arith, h.count, k.count);
     read = λ f. rose_later _ _ _ h.count (k.read (same_fault e Read f));
+  }
+
+  -- no memory for one word more
+  pub collecting_memory : (x : ℕ) → PartRead one_word m n (Ok (Some x)) → PartRead list o n (Err Memory)
+  collecting_memory x k = record {
+    stays = stays_after list xs o m n h k.stays;
+    told = told_then _ _ _ _ _ _ h.told k.told (λ t u v i j. collects_memory list says kind xs x o.place m.place n.place t u v i j);
+    count = omega (arith, h.count, k.count);
+    read = λ e. cc e;
   }
 
 -- ---- Parts of one word

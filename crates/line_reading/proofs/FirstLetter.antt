@@ -1,5 +1,5 @@
 -- The letter of the line that comes next.
-use Rattle.std.proofs.Common.{◌≡◌, ℕ, ◌<◌, ◌≤◌, ◌⊎◌, Bool, true, nat_lt, if◌then◌else◌, List, [], ◌∷◌, length, Some, Ok, Err, refl, sym, ap, ◌∙◌, subst, inl, inr, ltb-true, arith}
+use Rattle.std.proofs.Common.{◌≡◌, ℕ, ◌<◌, ◌≤◌, ◌⊎◌, Bool, true, false, nat_lt, if◌then◌else◌, List, [], ◌∷◌, length, Some, Ok, Err, refl, sym, ap, ◌∙◌, subst, inl, inr, ltb-true, arith}
 use Rattle.std.proofs.lemmas.Bool.{cases_Bool}
 use Rattle.std.specs.declared.result.Result.{Result}
 use Rattle.session_rules.specs.declared.Letter.{Letter}
@@ -10,7 +10,7 @@ use Rattle.session_rules.specs.declared.LineFault.{LineFault}
 use Rattle.session_rules.specs.declared.LineFault.TheVariants.{Syntax, Read, Memory}
 use Rattle.session_rules.specs.Lines.{has_content, judged_words, without_cut_word}
 use Rattle.session_rules.specs.Reading.{Fault, wrong, missing, letter_of}
-use Rattle.slice_tokens.specs.Place.{Place, WhereTold, present, later}
+use Rattle.slice_tokens.specs.Place.{Place, WhereTold, present, lines_behind}
 use Rattle.slice_tokens.specs.Due.{known_words}
 use Rattle.slice_tokens.specs.Calls.{Moves, SameLater, InLine}
 use Rattle.line_reading.specs.Parts.{PartAnswers, fault_rule, ReadsPart, word_part, word_or_fault}
@@ -18,6 +18,7 @@ use Rattle.line_reading.specs.Kinds.{letter_says, letter_or_rule}
 use Rattle.line_reading.proofs.LongWords.{long_letter}
 use Rattle.line_reading.specs.Readers.{Reader, to_come, PartRead, LetterRead}
 use Rattle.line_reading.proofs.Joined.{told_then, moves_trans, rose_later, same_fault}
+use Rattle.slice_tokens.proofs.Places.{passed_trans}
 use Rattle.line_reading.specs.Whole.{StandsInLine, Entered, Unentered, Enters}
 
 -- a letter as the first word
@@ -51,13 +52,14 @@ part_letter (w ∷ ws) us l h = elim (cases_Bool (nat_lt 32 (length w))) [
 
 -- ---- Where the window entered a line
 
-pub entered : (l : Letter) (o p q : Place) (t u v : List ℕ) → q.line ≡ p.line → InLine o t p u → ReadsPart letter_part (Ok l) p u q v → Entered l o t q v
-entered l o p q t u v stays i k =
+pub entered : (l : Letter) (o p q : Place) (t u v : List ℕ) → q.line ≡ p.line → q.fresh ≡ false → InLine o t p u → ReadsPart letter_part (Ok l) p u q v → Entered l o t q v
+entered l o p q t u v stays taken i k =
     let line = present p u in
     let r = part_letter (known_words line) (known_words (present q v)) l k.answer in record {
       line = line;
       word = r.0;
-      lines = i.lines ∙ ap (λ ls. line ∷ ls) (sym k.behind.later);
+      lines = i.lines ∙ ap (λ ls. line ∷ ls) (sym k.behind.lines);
+      taken = taken;
       number = i.number ∙ sym stays;
       is_letter = r.2;
       same_cut = k.line.cut;
@@ -65,6 +67,7 @@ entered l o p q t u v stays i k =
       whole_words = λ e. let uncut = i.whole e in sym (ap (λ c. if c then without_cut_word line.words else line.words) uncut) ∙ r.1;
       cut = k.behind.cut ∙ i.cut;
       last = k.behind.last ∙ i.last;
+      passed = passed_trans o p q t u v i.passed k.behind.passed;
     }
 
 -- words that begin with no letter
@@ -89,22 +92,23 @@ no_content : (ws : List (List ℕ)) → has_content ws ≡ true → ws ≡ [] �
 no_content [] h e = cc h
 no_content (w ∷ ws) h e = cc e
 
-module _ (o p q : Place) (t u v : List ℕ) (stays : q.line ≡ p.line) (i : InLine o t p u) where
-  -- where no known word is left in a line with content, it is cut
-  cut_where_none : known_words (present p u) ≡ [] → (present p u).cut ≡ true
-  cut_where_none e = elim (cases_Bool (present p u).cut) [
-    | inl c ↦ c
-    | inr c ↦ let uncut = i.whole c in
-        absurd (no_content (present p u).words i.content (sym (ap (λ k. if k then without_cut_word (present p u).words else (present p u).words) uncut) ∙ e))
-  ]
+-- where no known word is left in a line with content, it is cut
+pub cut_where_none : (o p : Place) (t u : List ℕ) → InLine o t p u → known_words (present p u) ≡ [] → (present p u).cut ≡ true
+cut_where_none o p t u i e = elim (cases_Bool (present p u).cut) [
+  | inl c ↦ c
+  | inr c ↦ let uncut = i.whole c in
+      absurd (no_content (present p u).words i.content (sym (ap (λ k. if k then without_cut_word (present p u).words else (present p u).words) uncut) ∙ e))
+]
 
-  unentered_by : (f : Fault) → letter_part (known_words (present p u)) ≡ Err f → Unentered (fault_rule (present p u).cut f) o t q
-  unentered_by f e = let line = present p u in record {
+module _ (o p q : Place) (t u v : List ℕ) (stays : q.line ≡ p.line) (i : InLine o t p u) where
+  unentered_by : (f : Fault) → SameLater p u q v → letter_part (known_words (present p u)) ≡ Err f → Unentered (fault_rule (present p u).cut f) o t q v
+  unentered_by f b e = let line = present p u in record {
     line = line;
-    more = later p u;
+    more = lines_behind p u;
     lines = i.lines;
     number = i.number ∙ sym stays;
-    reason = elim (no_letter_said line.cut (known_words line) f cut_where_none e) [
+    passed = passed_trans o p q t u v i.passed b.passed;
+    reason = elim (no_letter_said line.cut (known_words line) f (cut_where_none o p t u i) e) [
       | inl n ↦ inl (n.0, n.1, n.2, judged_is ∙ n.3, λ c. sym (ap (λ k. if k then without_cut_word line.words else line.words) (i.whole c)) ∙ n.3, n.4)
       | inr n ↦ inr (judged_is ∙ n.0, n.1, n.2)
     ];
@@ -115,12 +119,12 @@ module _ (o p q : Place) (t u v : List ℕ) (stays : q.line ≡ p.line) (i : InL
 
   -- the window is still in the line that came next
   stands_in : SameLater p u q v → StandsInLine o t q v
-  stands_in k = record { line = present p u; lines = i.lines ∙ ap (λ ls. present p u ∷ ls) (sym k.later); number = i.number ∙ sym stays; cut = k.cut ∙ i.cut; last = k.last ∙ i.last }
+  stands_in k = record { line = present p u; lines = i.lines ∙ ap (λ ls. present p u ∷ ls) (sym k.lines); number = i.number ∙ sym stays; cut = k.cut ∙ i.cut; last = k.last ∙ i.last; passed = passed_trans o p q t u v i.passed k.passed }
 
   by_fault : (e : LineFault) (a : Result (Letter × List (List ℕ)) Fault) → letter_part (known_words (present p u)) ≡ a → (present q v).cut ≡ (present p u).cut
       → SameLater p u q v → PartAnswers a (present q v) (Err e) → Enters o t q v (Err e)
   by_fault (Syntax r) (Ok m) h c b k = absurd k
-  by_fault (Syntax r) (Err f) h c b k = inl (subst (λ z. Unentered z o t q) (sym (k ∙ ap (λ b. fault_rule b f) c)) (unentered_by f h))
+  by_fault (Syntax r) (Err f) h c b k = inl (subst (λ z. Unentered z o t q v) (sym (k ∙ ap (λ d. fault_rule d f) c)) (unentered_by f b h))
   by_fault Read a h c b k = inl (stands_in b)
   by_fault Memory a h c b k = stands_in b
 
@@ -130,11 +134,11 @@ module _ (o p q : Place) (t u v : List ℕ) (stays : q.line ≡ p.line) (i : InL
 -- ---- Over a source
 
 module _ (o m n : Reader) (moves : Moves o.place m.place) (count : o.faults ≤ m.faults) (entered_line : WhereTold (to_come o) (to_come m) (λ t u. InLine o.place t m.place u)) where
-  pub letter_read : (l : Letter) → m.place.passed < n.place.passed → PartRead letter_part m n (Ok l) → LetterRead o n (Ok (Some l))
-  letter_read l progress k = record {
+  pub letter_read : (l : Letter) → m.place.passed < n.place.passed → n.place.fresh ≡ false → PartRead letter_part m n (Ok l) → LetterRead o n (Ok (Some l))
+  letter_read l progress taken k = record {
     moves = moves_trans _ _ _ moves k.stays.moves;
     progress = λ _. omega (arith, moves.passed, progress);
-    told = told_then _ _ _ _ _ _ entered_line k.told (λ t u v i j. entered l o.place m.place n.place t u v k.stays.line i j);
+    told = told_then _ _ _ _ _ _ entered_line k.told (λ t u v i j. entered l o.place m.place n.place t u v k.stays.line taken i j);
     count = omega (arith, count, k.count);
     read = λ e. cc e;
   }

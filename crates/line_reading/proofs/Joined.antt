@@ -46,7 +46,7 @@ pub moves_trans : (o p q : Place) → Moves o p → Moves p q → Moves o q
 moves_trans o p q h k = record { passed = omega (arith, h.passed, k.passed); bounded = k.bounded; counted = k.counted; ended = λ e. k.ended (h.ended e) }
 
 pub stays_trans : (o p q : Place) → Stays o p → Stays p q → Stays o q
-stays_trans o p q h k = record { moves = moves_trans o p q h.moves k.moves; line = k.line ∙ h.line; standing = k.standing ∙ h.standing }
+stays_trans o p q h k = record { moves = moves_trans o p q h.moves k.moves; line = k.line ∙ h.line; standing = k.standing ∙ h.standing; taken = λ e. k.taken (h.taken e) }
 
 -- a count that rose later rose
 pub rose_later : (a b c : ℕ) → a ≤ b → Rose b c → Rose a c
@@ -87,7 +87,7 @@ pub window_failed : {A : Type 0} (Q : Place → List ℕ → Place → List ℕ 
     → ((t u : List ℕ) → Answers (due (present o.place t)) (Err fault) → LeavesLines (Err fault) o.place t n.place u → Q o.place t n.place u)
     → ReadsInLine {A = A} Q o n (Err (line_fault_of long fault))
 window_failed Q long fault o n leaves count read answer step = record {
-  stays = record { moves = leaves.moves; line = leaves.line; standing = leaves.standing };
+  stays = record { moves = leaves.moves; line = leaves.line; standing = leaves.standing; taken = λ e. leaves.fresh ∙ e };
   told = told_from _ _ (λ t. Answers (due (present o.place t)) (Err fault)) (λ t u. LeavesLines (Err fault) o.place t n.place u) _ answer leaves.told step;
   count = count;
   read = λ e. read (failed_read long fault e);

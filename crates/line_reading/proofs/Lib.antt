@@ -4,6 +4,7 @@ pub mod LongWords
 pub mod Collecting
 pub mod WholeBodies
 pub mod FirstLetter
+pub mod NextLetter
 pub mod ByLetter
 pub mod AtBounds
 pub mod EndDue

@@ -20,7 +20,8 @@ use Rattle.slice_tokens.specs.Calls.{without_first}
 use Rattle.slice_tokens.specs.Held.{passed_over}
 use Rattle.slice_tokens.specs.Front.{without_space, behind_space, coming, IsWordFront, TakesWord}
 use Rattle.slice_tokens.proofs.LineEnd.{passed_none}
-use Rattle.slice_tokens.proofs.Front.{takes_told, coming_bounds, coming_passed, coming_space, passed_twice}
+use Rattle.slice_tokens.proofs.Front.{takes_told, coming_bounds, coming_passed, coming_space}
+use Rattle.slice_tokens.proofs.Places.{passed_twice}
 use Rattle.line_reading.specs.Parts.{ReadsPart, word_part, word_or_fault}
 use Rattle.line_reading.specs.Kinds.{literal_says, literal_or_rule}
 use Rattle.line_reading.specs.Runs.{begins_with_space, IsSpaced, IsRun, IsWholeRun}

@@ -11,9 +11,9 @@ use Rattle.slice_tokens.specs.Place.{Place, present}
 use Rattle.slice_tokens.specs.Due.{known_words}
 use Rattle.line_reading.specs.Parts.{PartAnswers, ReadsPart, end_fault, EndAnswers, EndsLine}
 use Rattle.line_reading.specs.Whole.{of_line, Tells, ReadsBody, literals_body, ids_body, id_literals_body, id_literals_ids_body, literals_ids_body}
-use Rattle.line_reading.specs.Readers.{Reader, PartRead, BodyRead}
+use Rattle.line_reading.specs.Readers.{Reader, PartRead, BodyRead, EndRead}
 use Rattle.line_reading.proofs.Joined.{same_fault, in_line_then}
-use Rattle.line_reading.proofs.Collecting.{later_trans}
+use Rattle.slice_tokens.proofs.Told.{later_trans}
 
 -- ---- A part, and what comes behind it
 
@@ -70,6 +70,16 @@ module _ {A : Type 0} (x : A) where
 
   pub end_fails : (e : LineFault) (p q : Place) (t u : List ℕ) → EndsLine (Err e) p t q u → ReadsBody (whole x) (Err e) p t q u
   end_fails e p q t u h = record { answer = fault_at_end (present p t).cut (known_words (present p t)) e h.answer; behind = h.behind }
+
+-- a part and the line's end were read
+module _ {A : Type 0} (part : List (List ℕ) → Part A) (x : A) where
+  pub part_ended : (y : Unit) (o m n : Reader) → PartRead part o m (Ok x) → EndRead m n (Ok y) → BodyRead (with_more part (λ a ws. whole a ws)) o n (Ok x)
+  part_ended y o m n h k = in_line_then _ _ (ReadsBody (with_more part (λ a ws. whole a ws)) (Ok x)) _ (Ok y) _ o m n (λ e. cc e) h k (λ t u v i j.
+      body_then part (λ a ws. whole a ws) x (Ok x) o.place m.place n.place t u v i (end_then x y m.place n.place u v j))
+
+  pub part_unended : (e : LineFault) (o m n : Reader) → PartRead part o m (Ok x) → EndRead m n (Err e) → BodyRead (with_more part (λ a ws. whole a ws)) o n (Err e)
+  part_unended e o m n h k = in_line_then _ _ (ReadsBody (with_more part (λ a ws. whole a ws)) (Err e)) _ _ _ o m n (same_fault e Read) h k (λ t u v i j.
+      body_then part (λ a ws. whole a ws) x (Err e) o.place m.place n.place t u v i (end_fails x e m.place n.place u v j))
 
 -- ---- Another value of the same words
 
@@ -142,6 +152,18 @@ with_id i ws = list_mapped (id_with i) (literal_list ws)
 pub with_literals : (ls : List ℕ) (ws : List (List ℕ)) → (id_list ws >>= λ hs. whole (both_lists ls hs.0) hs.1) ≡ mapped (both_lists ls) (ids_body ws)
 with_literals ls ws = list_mapped (both_lists ls) (id_list ws)
 
+-- ---- A body behind a part that was read
+
+pub ids_behind : (ls hs : List ℕ) (o m n : Reader) → PartRead literal_list o m (Ok ls) → BodyRead ids_body m n (Ok hs) → BodyRead literals_ids_body o n (Ok (ls, hs))
+ids_behind ls hs o m n h k = in_line_then _ _ (ReadsBody literals_ids_body (Ok (ls, hs))) _ (let r : Result (List ℕ) LineFault = Ok hs in r) _ o m n (λ e. cc e) h k (λ t u v i j.
+    body_then literal_list (λ ls ws. id_list ws >>= λ hs. whole (both_lists ls hs.0) hs.1) ls (Ok (ls, hs)) o.place m.place n.place t u v i
+    (mapped_ok (both_lists ls) ids_body (λ ws. id_list ws >>= λ hs. whole (both_lists ls hs.0) hs.1) (with_literals ls) hs m.place n.place u v j))
+
+pub literals_behind : (i : ℕ) (ls : List ℕ) (o m n : Reader) → PartRead own_id o m (Ok i) → BodyRead literals_body m n (Ok ls) → BodyRead id_literals_body o n (Ok (i, ls))
+literals_behind i ls o m n h k = in_line_then _ _ (ReadsBody id_literals_body (Ok (i, ls))) _ (let r : Result (List ℕ) LineFault = Ok ls in r) _ o m n (λ e. cc e) h k (λ t u v p j.
+    body_then own_id (λ i ws. literal_list ws >>= λ ls. whole (id_with i ls.0) ls.1) i (Ok (i, ls)) o.place m.place n.place t u v p
+    (mapped_ok (id_with i) literals_body (λ ws. literal_list ws >>= λ ls. whole (id_with i ls.0) ls.1) (with_id i) ls m.place n.place u v j))
+
 -- ---- Faults behind a part that was read
 
 pub fault_behind_literals : (ls : List ℕ) (e : LineFault) (o m n : Reader) → PartRead literal_list o m (Ok ls) → BodyRead ids_body m n (Err e) → BodyRead literals_ids_body o n (Err e)
@@ -176,3 +198,9 @@ unfolding lists_behind
 fault_behind_id_lists i e o m n h k = in_line_then _ _ (ReadsBody id_literals_ids_body (Err e)) _ _ _ o m n (same_fault e Read) h k (λ t u v p j.
     body_then own_id (λ i ws. literal_list ws >>= λ ls. id_list ls.1 >>= λ hs. whole (with_first i (both_lists ls.0 hs.0)) hs.1) i (Err e) o.place m.place n.place t u v p
     (mapped_err (with_first i) literals_ids_body (lists_behind i) (lists_mapped i) e m.place n.place u v j))
+
+pub lists_behind_id : (i : ℕ) (both : List ℕ × List ℕ) (o m n : Reader) → PartRead own_id o m (Ok i) → BodyRead literals_ids_body m n (Ok both) → BodyRead id_literals_ids_body o n (Ok (i, both.0, both.1))
+unfolding lists_behind
+lists_behind_id i both o m n h k = in_line_then _ _ (ReadsBody id_literals_ids_body (Ok (i, both.0, both.1))) _ (let r : Result (List ℕ × List ℕ) LineFault = Ok both in r) _ o m n (λ e. cc e) h k (λ t u v p j.
+    body_then own_id (λ i ws. literal_list ws >>= λ ls. id_list ls.1 >>= λ hs. whole (with_first i (both_lists ls.0 hs.0)) hs.1) i (Ok (i, both.0, both.1)) o.place m.place n.place t u v p
+    (mapped_ok (with_first i) literals_ids_body (lists_behind i) (lists_mapped i) both m.place n.place u v j))

@@ -1,5 +1,5 @@
 -- What the readers of a line's parts answer, by what the words of the line say.
-use Rattle.std.specs.Prelude.{◌≡◌, ℕ, Bool, nat_lt, if◌then◌else◌, List, [], ◌∷◌, length, Some, None, Ok, Err, ⊤}
+use Rattle.std.specs.Prelude.{◌≡◌, ℕ, Bool, false, nat_lt, if◌then◌else◌, List, [], ◌∷◌, length, Some, None, Ok, Err, ⊤}
 use Rattle.std.specs.declared.option.Option.{Option}
 use Rattle.std.specs.declared.result.Result.{Result}
 use Rattle.session_rules.specs.declared.Rule.{Rule}
@@ -55,11 +55,12 @@ pub record EndsLine (result : Result Unit LineFault) (old : Place) (bytes : List
   pub line : SameLine (present old bytes) (present new rest)
   pub behind : SameLater old bytes new rest
 
--- how the reader of a part leaves the window, over any source
+-- how the reader of a part leaves the window, over any source: in its line, which isn't due again once a word of it was taken
 pub record Stays (old new : Place) : Type 0 where
   pub moves : Moves old new
   pub line : new.line ≡ old.line
   pub standing : new.standing ≡ old.standing
+  pub taken : old.fresh ≡ false → new.fresh ≡ false
 
 -- a fault of the window, where a word that is too long breaks this rule
 abbrev pub line_fault_of : Rule → TokenFault → LineFault

@@ -11,7 +11,7 @@ use Rattle.session_rules.specs.Reading.{Fault, Part}
 use Rattle.slice_tokens.specs.Place.{Place, ahead, WhereTold}
 use Rattle.slice_tokens.specs.Calls.{Moves}
 use Rattle.line_reading.specs.Parts.{ReadsPart, EndsLine, Stays}
-use Rattle.line_reading.specs.Whole.{ReadsBody, Enters, LineAnswers}
+use Rattle.line_reading.specs.Whole.{ReadsBody, Enters, SeesNext, LineAnswers}
 
 -- what contracts see of a window over a source: where the window stands, what the source has left, where it tells that,
 -- and how often the source has failed
@@ -74,3 +74,11 @@ abbrev pub LineRead : {A : Type 0} → (List (List ℕ) → Result A Fault) → 
     → Result (Option A) LineFault → Type 0
 LineRead read old new result =
     ReadsNextLine (λ place bytes after rest. LineAnswers read place bytes after rest result) old new result
+
+-- The letter of the next content line was looked at, or no line is left. Over every source the window doesn't go back, and a
+-- failed read has its cause in the source; where the source tells its bytes, this is what was seen of them.
+pub record LetterPeeked (old new : Reader) (result : Result (Option Letter) LineFault) : Type 0 where
+  pub moves : Moves old.place new.place
+  pub told : WhereTold (to_come old) (to_come new) (λ bytes rest. SeesNext old.place bytes new.place rest result)
+  pub count : old.faults ≤ new.faults
+  pub read : IsErrOf result Read → Rose old.faults new.faults

@@ -10,10 +10,11 @@ use Rattle.session_rules.specs.declared.Rule.TheVariants as rules
 use Rattle.session_rules.specs.declared.LineFault.{LineFault}
 use Rattle.session_rules.specs.declared.LineFault.TheVariants.{Syntax, Read, Memory}
 use Rattle.session_rules.specs.Lines.{Line, judged_words}
+use Rattle.session_rules.specs.Pair.{line_letter, is_cut_early}
 use Rattle.session_rules.specs.Reading.{Fault, letter_of, ◌>>=◌, of_whole_line, of_cut_line, value_of, whole, own_id, literal_list, id_list, of_literals, of_ids, of_status}
-use Rattle.slice_tokens.specs.Place.{Place, present, later, is_cut, last_line}
+use Rattle.slice_tokens.specs.Place.{Place, present, lines_behind, later, is_cut, last_line}
 use Rattle.slice_tokens.specs.Due.{known_words}
-use Rattle.slice_tokens.specs.Calls.{SameLater, SameContent, AtEnd}
+use Rattle.slice_tokens.specs.Calls.{Passed, SameLater, SameContent, AtEnd}
 
 -- what words say in a line that is cut, or isn't: a value, or a rule
 abbrev pub of_line : {A : Type 0} → Bool → Result A Fault → Result A Rule
@@ -61,28 +62,32 @@ pub record Says {A : Type 0} (read : List (List ℕ) → Result A Fault) (x : A)
   pub number : line.number ≡ new.line
   pub cut : is_cut new rest ≡ is_cut old bytes
   pub last : last_line new rest ≡ last_line old bytes
+  pub passed : Passed old bytes new rest
 
 -- the next line breaks a rule
-pub record Breaks {A : Type 0} (read : List (List ℕ) → Result A Fault) (r : Rule) (old : Place) (bytes : List ℕ) (new : Place) : Type 0 where
+pub record Breaks {A : Type 0} (read : List (List ℕ) → Result A Fault) (r : Rule) (old : Place) (bytes : List ℕ) (new : Place) (rest : List ℕ) : Type 0 where
   pub line : Line
   pub more : List Line
   pub lines : later old bytes ≡ line ∷ more
   pub rule : value_of read line ≡ Err r
   pub number : line.number ≡ new.line
+  pub passed : Passed old bytes new rest
 
 -- the bound cuts the present line, and none comes behind it
-pub record BehindCut (r : Rule) (old : Place) (bytes : List ℕ) : Type 0 where
+pub record BehindCut (r : Rule) (old : Place) (bytes : List ℕ) (new : Place) (rest : List ℕ) : Type 0 where
   pub lines : later old bytes ≡ []
   pub cut : is_cut old bytes ≡ true
   pub rule : r ≡ rules.Length
+  pub passed : Passed old bytes new rest
 
 -- the window stands in the line that came next, and those behind it are still to come
 pub record StandsInLine (old : Place) (bytes : List ℕ) (new : Place) (rest : List ℕ) : Type 0 where
   pub line : Line
-  pub lines : later old bytes ≡ line ∷ later new rest
+  pub lines : later old bytes ≡ line ∷ lines_behind new rest
   pub number : line.number ≡ new.line
   pub cut : is_cut new rest ≡ is_cut old bytes
   pub last : last_line new rest ≡ last_line old bytes
+  pub passed : Passed old bytes new rest
 
 -- where a failed read leaves the window: in the line that came next, or before it
 abbrev pub StopsInOrBefore : Place → List ℕ → Place → List ℕ → Type 0
@@ -92,7 +97,7 @@ StopsInOrBefore old bytes new rest = StandsInLine old bytes new rest ⊎ SameCon
 abbrev pub LineAnswers : {A : Type 0} → (List (List ℕ) → Result A Fault) → Place → List ℕ → Place → List ℕ → Result (Option A) LineFault → Type 0
 LineAnswers read old bytes new rest (Ok None) = AtEnd old bytes new rest
 LineAnswers read old bytes new rest (Ok (Some x)) = Says read x old bytes new rest
-LineAnswers read old bytes new rest (Err (Syntax r)) = Breaks read r old bytes new ⊎ BehindCut r old bytes
+LineAnswers read old bytes new rest (Err (Syntax r)) = Breaks read r old bytes new rest ⊎ BehindCut r old bytes new rest
 LineAnswers read old bytes new rest (Err Read) = StopsInOrBefore old bytes new rest
 LineAnswers read old bytes new rest (Err Memory) = StandsInLine old bytes new rest
 
@@ -102,7 +107,8 @@ LineAnswers read old bytes new rest (Err Memory) = StandsInLine old bytes new re
 pub record Entered (letter : Letter) (old : Place) (bytes : List ℕ) (new : Place) (rest : List ℕ) : Type 0 where
   pub line : Line
   pub word : List ℕ
-  pub lines : later old bytes ≡ line ∷ later new rest
+  pub lines : later old bytes ≡ line ∷ lines_behind new rest
+  pub taken : new.fresh ≡ false
   pub number : line.number ≡ new.line
   pub is_letter : letter_of word ≡ letter
   pub same_cut : (present new rest).cut ≡ line.cut
@@ -110,23 +116,57 @@ pub record Entered (letter : Letter) (old : Place) (bytes : List ℕ) (new : Pla
   pub whole_words : line.cut ≡ false → line.words ≡ word ∷ known_words (present new rest)
   pub cut : is_cut new rest ≡ is_cut old bytes
   pub last : last_line new rest ≡ last_line old bytes
+  pub passed : Passed old bytes new rest
 
 -- the line that came next begins with no letter, or the bound cuts it before its first word ended
 abbrev pub NoLetterIn : Line → Rule → Type 0
 NoLetterIn line r = ((word : List ℕ) × (ws : List (List ℕ)) × (letter_of word ≡ letters.NoLetter) × (judged_words line ≡ word ∷ ws) × (line.cut ≡ false → line.words ≡ word ∷ ws) × (r ≡ rules.Letter))
     ⊎ ((judged_words line ≡ []) × (line.cut ≡ true) × (r ≡ rules.Length))
 
-pub record Unentered (r : Rule) (old : Place) (bytes : List ℕ) (new : Place) : Type 0 where
+pub record Unentered (r : Rule) (old : Place) (bytes : List ℕ) (new : Place) (rest : List ℕ) : Type 0 where
   pub line : Line
   pub more : List Line
   pub lines : later old bytes ≡ line ∷ more
   pub number : line.number ≡ new.line
   pub reason : NoLetterIn line r
+  pub passed : Passed old bytes new rest
 
 -- what going to the next line answers
 abbrev pub Enters : Place → List ℕ → Place → List ℕ → Result (Option Letter) LineFault → Type 0
 Enters old bytes new rest (Ok None) = AtEnd old bytes new rest
 Enters old bytes new rest (Ok (Some letter)) = Entered letter old bytes new rest
-Enters old bytes new rest (Err (Syntax r)) = Unentered r old bytes new ⊎ BehindCut r old bytes
+Enters old bytes new rest (Err (Syntax r)) = Unentered r old bytes new rest ⊎ BehindCut r old bytes new rest
 Enters old bytes new rest (Err Read) = StopsInOrBefore old bytes new rest
 Enters old bytes new rest (Err Memory) = StandsInLine old bytes new rest
+
+-- ---- The letter of a line that is still due
+
+-- the window stands before the line that came next, which begins with this letter
+pub record Sees (letter : Letter) (old : Place) (bytes : List ℕ) (new : Place) (rest : List ℕ) : Type 0 where
+  pub line : Line
+  pub more : List Line
+  pub lines : later old bytes ≡ line ∷ more
+  pub due : later new rest ≡ later old bytes
+  pub is_letter : line_letter line ≡ letter
+  pub judged : is_cut_early line ≡ false
+  pub cut : is_cut new rest ≡ is_cut old bytes
+  pub last : last_line new rest ≡ last_line old bytes
+  pub passed : Passed old bytes new rest
+
+-- the bound cuts the line that came next before any word of it is judged
+pub record CutEarly (r : Rule) (old : Place) (bytes : List ℕ) (new : Place) (rest : List ℕ) : Type 0 where
+  pub line : Line
+  pub more : List Line
+  pub lines : later old bytes ≡ line ∷ more
+  pub early : is_cut_early line ≡ true
+  pub number : line.number ≡ new.line
+  pub rule : r ≡ rules.Length
+  pub passed : Passed old bytes new rest
+
+-- what looking at the next line's letter answers
+abbrev pub SeesNext : Place → List ℕ → Place → List ℕ → Result (Option Letter) LineFault → Type 0
+SeesNext old bytes new rest (Ok None) = AtEnd old bytes new rest
+SeesNext old bytes new rest (Ok (Some letter)) = Sees letter old bytes new rest
+SeesNext old bytes new rest (Err (Syntax r)) = CutEarly r old bytes new rest ⊎ BehindCut r old bytes new rest
+SeesNext old bytes new rest (Err Read) = StopsInOrBefore old bytes new rest
+SeesNext old bytes new rest (Err Memory) = ⊥

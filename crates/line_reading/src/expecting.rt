@@ -1,5 +1,5 @@
 // Words that are given, and the line's end, each with the rule that anything else breaks.
-ghost use Rattle.std.specs.Prelude.{◌≡◌, IsErrOf};
+ghost use Rattle.std.specs.Prelude.{◌≡◌, false, IfOk, IsErrOf};
 ghost use Rattle.session_rules.specs.declared.LineFault.{LineFault};
 ghost use Rattle.line_reading.specs.Readers.{reader, PartRead, BodyRead};
 ghost use Rattle.line_reading.specs.Expected.{expected_says, expected_word, expected_end};
@@ -32,6 +32,7 @@ pub fn expect_word<S: Source>(
     ensures part { let at = reader S.left S.faults in
         PartRead (expected_word word.now rule)
         (at window.old src.old) (at window.new src.new) result }
+    ensures taken { IfOk result (λ _. window.new.fresh ≡ false) }
     ensures memory { IsErrOf result LineFault.Memory → ⊥ }
 {
     match window.next(src) {

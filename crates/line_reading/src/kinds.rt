@@ -9,8 +9,8 @@ use crate::words::WordKind;
 use lits::{IdWord, Lit, LitWord, front_id, front_literal, front_zero, id_word, literal_word};
 use session_rules::{Id, Letter, Rule, StatusWord};
 
-// The letter that a word is.
-fn letter_of(word: &[u8]) -> Letter
+/// The letter that a word is.
+pub(crate) fn letter_of(word: &[u8]) -> Letter
     ensures { result ≡ reading.letter_of word.now }
 {
     match word {
@@ -23,6 +23,8 @@ fn letter_of(word: &[u8]) -> Letter
         [b'd'] => Letter::Deletion,
         [b'w'] => Letter::Weakening,
         [b'r'] => Letter::Restoring,
+        [b'v'] => Letter::Values,
+        [b'f'] => Letter::Failed,
         _ => Letter::NoLetter,
     }
 }

@@ -1,5 +1,5 @@
 // The kinds of words that stand in lines, and the reading of the next word as one of a kind.
-ghost use Rattle.std.specs.Prelude.{◌≡◌, ℕ, ◌<◌, List, take, Ok, IfOk, IfSome, IsErrOf};
+ghost use Rattle.std.specs.Prelude.{◌≡◌, ℕ, ◌<◌, false, List, take, Ok, IfOk, IfSome, IsErrOf};
 ghost use Rattle.std.specs.declared.result.Result.{Result};
 ghost use Rattle.session_rules.specs.declared.Rule.{Rule};
 ghost use Rattle.session_rules.specs.declared.LineFault.{LineFault};
@@ -59,6 +59,7 @@ pub fn next_word<S: Source, K: WordKind>(
         PartRead (word_part K.says K.missing K.long)
         (at window.old src.old) (at window.new src.new) result }
     ensures progress { IfOk result (λ _. window.old.passed < window.new.passed) }
+    ensures taken { IfOk result (λ _. window.new.fresh ≡ false) }
     ensures memory { IsErrOf result LineFault.Memory → ⊥ }
 {
     match K::front(window.behind_space()) {
@@ -80,6 +81,7 @@ pub(crate) fn first_word<S: Source, K: WordKind>(
         PartRead (word_part K.says K.missing K.long)
         (at window.old src.old) (at window.new src.new) result }
     ensures progress { IfOk result (λ _. window.old.passed < window.new.passed) }
+    ensures taken { IfOk result (λ _. window.new.fresh ≡ false) }
     ensures memory { IsErrOf result LineFault.Memory → ⊥ }
 {
     match K::front(window.coming()) {
@@ -101,6 +103,7 @@ fn whole_word<S: Source, K: WordKind>(
         PartRead (word_part K.says K.missing K.long)
         (at window.old src.old) (at window.new src.new) result }
     ensures progress { IfOk result (λ _. window.old.passed < window.new.passed) }
+    ensures taken { IfOk result (λ _. window.new.fresh ≡ false) }
     ensures memory { IsErrOf result LineFault.Memory → ⊥ }
 {
     match window.next(src) {

@@ -1,13 +1,16 @@
 -- Where a stream is longer than the bound, the last of its lines is the one that the bound cuts; so a line that isn't cut isn't
 -- the last.
-use Rattle.std.proofs.Common.{◌≡◌, ℕ, ◌+◌, Bool, true, false, nat_lt, List, [], ◌∷◌, filter, length, take, Ok, Err, refl, sym, ◌∙◌, subst, inl, inr, if◌then◌else◌}
+use Rattle.std.proofs.Common.{◌≡◌, ℕ, ◌+◌, Bool, true, false, nat_lt, List, [], ◌∷◌, ◌++◌, filter, length, take, Ok, Err, refl, sym, ◌∙◌, subst, inl, inr, if◌then◌else◌}
 use Rattle.std.proofs.lemmas.Bool.{cases_Bool}
 use Rattle.std.specs.List.{slice_split, onto_first}
 use Rattle.std.specs.declared.result.Result.{Result}
 use Rattle.session_rules.specs.declared.Rule.{Rule}
 use Rattle.session_rules.specs.Lines.{Line, lines, lines_within, all_lines, numbered, counts, line_of, is_line_feed, most_bytes, judged_words}
-use Rattle.session_rules.specs.Reading.{Fault, wrong, missing, of_cut_line, of_whole_line, value_of}
-use Rattle.slice_tokens.specs.Place.{Place, at_start, later, following, is_cut}
+use Rattle.session_rules.specs.declared.Event.{Event}
+use Rattle.icnf_lines.specs.Matching.{IsGood, AreGood}
+use Rattle.std.proofs.lemmas.List.Elements.{All-head, All-tail}
+use Rattle.session_rules.specs.Reading.{Fault, wrong, missing, of_cut_line, of_whole_line, value_of, icnf_line}
+use Rattle.slice_tokens.specs.Place.{Place, at_start, later, lines_behind, following, is_cut}
 use Rattle.line_reading.specs.Whole.{BehindCut}
 use Rattle.pair_matcher.specs.Checks.{EndsCut, CutComes}
 
@@ -45,12 +48,12 @@ lines_end bytes e = texts_end 1 (slice_split is_line_feed (take most_bytes bytes
 
 -- before the first line
 pub cut_at_start : (bytes : List ℕ) → CutComes at_start bytes
-unfolding later following is_cut lines lines_within
+unfolding later lines_behind following is_cut lines lines_within
 cut_at_start bytes = record { comes = λ e. lines_end bytes e }
 
 -- no line comes only where none is cut
-pub not_behind_cut : (r : Rule) (place : Place) (bytes : List ℕ) → CutComes place bytes → BehindCut r place bytes → ⊥
-not_behind_cut r place bytes cut b = subst EndsCut b.lines (cut.comes b.cut)
+pub not_behind_cut : (r : Rule) (place new : Place) (bytes rest : List ℕ) → CutComes place bytes → BehindCut r place bytes new rest → ⊥
+not_behind_cut r place new bytes rest cut b = subst EndsCut b.lines (cut.comes b.cut)
 
 cut_says : {A : Type 0} (o : Result A Fault) (x : A) → of_cut_line o ≡ Ok x → ⊥
 cut_says (Ok y) x e = cc e
@@ -73,3 +76,9 @@ ends_cut-rest line (next ∷ more) e h = h
 pub cut_behind : {A : Type 0} (read : List (List ℕ) → Result A Fault) (line : Line) (x : A) (p q : Place) (t u : List ℕ) → later p t ≡ line ∷ later q u → value_of read line ≡ Ok x
     → is_cut q u ≡ is_cut p t → CutComes p t → CutComes q u
 cut_behind read line x p q t u e v same cut = record { comes = λ c. ends_cut-rest line (later q u) (uncut read line x v) (subst EndsCut e (cut.comes (sym same ∙ c))) }
+
+-- lines that agree say events, so none of them is cut, and the line that the bound cuts is still to come behind them
+pub cut_behind_good : (e : Event) (qs : List ℕ) (good rest : List Line) → AreGood e qs good → EndsCut (good ++ rest) → EndsCut rest
+cut_behind_good e qs [] rest h c = c
+cut_behind_good e qs (line ∷ good) rest h c = let first = All-head (IsGood e qs) line good h in
+    cut_behind_good e qs good rest (All-tail (IsGood e qs) line good h) (ends_cut-rest line (good ++ rest) (uncut icnf_line line first.partner first.value) c)

@@ -1,8 +1,9 @@
 -- What each part of a check says of the verdict: either the first of all faults, or that no fault was met so far.
-use Rattle.std.proofs.Common.{◌≡◌, ℕ, ◌+◌, ◌⊎◌, Bool, true, false, not, ◌&&◌, if◌then◌else◌, List, [], ◌∷◌, ◌++◌, map, filter, length, drop, count_by, filter_map, Option, Some, None, Ok, Err, refl, sym, ap, ◌∙◌, subst, inl, inr, arith, append-nil}
+use Rattle.std.proofs.Common.{◌≡◌, ℕ, zero, suc, ◌+◌, ◌<◌, ◌⊎◌, flat_map, take, Bool, true, false, not, ◌&&◌, if◌then◌else◌, List, [], ◌∷◌, ◌++◌, map, filter, length, drop, count_by, filter_map, Option, Some, None, Ok, Err, refl, sym, ap, ◌∙◌, subst, inl, inr, arith, append-nil}
+use mathlib.Core.Path.{fun_ext}
 use Rattle.std.specs.Prelude.{codes, slice_get}
 use Rattle.std.specs.declared.result.Result.{Result}
-use Rattle.std.proofs.lemmas.List.Elements.{filter_map-append}
+use Rattle.std.proofs.lemmas.List.Elements.{filter_map-append, All-head, All-tail}
 use Rattle.std.proofs.lemmas.List.Sums.{length-filter}
 use Rattle.session_rules.specs.declared.Side.{Side}
 use Rattle.session_rules.specs.declared.Side.TheVariants.{Interaction, Proof}
@@ -14,14 +15,17 @@ use Rattle.session_rules.specs.declared.Verdict.TheVariants.{Accepted, Refused}
 use Rattle.session_rules.specs.Lines.{Line, lines, end_line, has_content}
 use Rattle.session_rules.specs.Reading.{value_of, icnf_line, value_and_more, values_of, header_fault}
 use Rattle.session_rules.specs.History.{phase, assumed, query_of, broken_unless}
-use Rattle.session_rules.specs.Pair.{ProofForm, Refusal, refusal, refusals, one_refusal, pair_faults, partner_count, partner_rules, partner_faults, match_faults, step_partners, step_matches, line_faults, partners_of, with_step, faults_from, pair_refusals, is_query, is_idle, unfinished, surplus, verdict_of, verdict_by}
+use Rattle.session_rules.specs.Pair.{ProofForm, Refusal, refusal, refusals, one_refusal, pair_faults, partner_count, owes_partner, missing_partner, partner_rules, partner_faults, match_faults, step_partners, step_matches, line_faults, partners_of, with_step, faults_from, pair_refusals, is_query, is_idle, unfinished, surplus, verdict_of, verdict_by}
 use Rattle.slice_tokens.specs.Place.{Place, present, later, last_line}
 use Rattle.slice_tokens.specs.Calls.{InLine, AtEnd, AtBound, OnlyCut}
 use Rattle.line_reading.specs.Whole.{Says, Breaks, BehindCut}
-use Rattle.icnf_lines.specs.Matching.{Meets}
+use Rattle.icnf_lines.specs.Matching.{IsGood, AreGood, AllAgree, LacksPartner, StandsBehind, OneDiffers, OneBreaks, CutBehindRun}
+use Rattle.std.proofs.lemmas.List.{take-append-drop}
+use Rattle.std.proofs.lemmas.List.Concat.{flat_map-cons}
+use Rattle.std.proofs.lemmas.Grind.{flat_map-append}
 use Rattle.pair_matcher.specs.Sides.{first_rule}
 use Rattle.pair_matcher.specs.Checks.{EndsCut, at, IsBehindHeader, query_count, queries_in, all_queries, Checking, AtStep, AtEvent, AtProofEnd, AtSurplus}
-use Rattle.pair_matcher.proofs.CutLines.{not_behind_cut, cut_behind}
+use Rattle.pair_matcher.proofs.CutLines.{not_behind_cut, cut_behind, cut_behind_good}
 
 -- ---- The first of some rules
 
@@ -48,10 +52,54 @@ got_none (s ∷ rs) e = cc e
 
 -- ---- Partners
 
--- what an event breaks with the line that comes next
-partner_says : (qs : List ℕ) (number : ℕ) (e : Event) (line : Line) (more : List Line) (v : Result Event Rule) → value_of icnf_line line ≡ v
-    → match_faults qs number e (line ∷ more) ≡ refusals Interaction line.number (partner_rules qs e v)
-partner_says qs number e line more v h = append-nil (partner_faults qs e line) ∙ ap (λ o. refusals Interaction line.number (partner_rules qs e o)) h
+-- no event has a partner where no line is left
+no_partner : (e : Event) → partner_count e [] ≡ 0
+no_partner (events.Input c) = refl
+no_partner (events.Query c) = refl
+no_partner (events.Status s) = refl
+no_partner (events.Model c) = refl
+no_partner (events.Core c) = refl
+no_partner (events.Values c) = refl
+no_partner (events.Failed c) = refl
+
+-- an event that has the partner which it owes misses none
+missing-nil : (number : ℕ) (e : Event) (b : Bool) → owes_partner e ≡ b → (owes_partner e ≡ true → 0 < partner_count e []) → missing_partner number e [] ≡ []
+missing-nil number e true o h = let lt = h o in absurd (omega (arith, no_partner e, lt))
+missing-nil number e false o h = rw o refl
+
+none_missing : (number : ℕ) (e : Event) (ls : List Line) → (owes_partner e ≡ true → 0 < partner_count e ls) → missing_partner number e ls ≡ []
+none_missing number e [] h = missing-nil number e (owes_partner e) refl h
+none_missing number e (line ∷ more) h = refl
+
+-- the first lines with one behind fewer than so many others
+take_past : (good more : List Line) (line : Line) (n : ℕ) → length good < n → (behind : List Line) × (take n (good ++ line ∷ more) ≡ good ++ line ∷ behind)
+take_past [] more line zero lt = absurd (omega (arith, lt))
+take_past [] more line (suc n) lt = (take n more, refl)
+take_past (g ∷ good) more line zero lt = absurd (omega (arith, lt))
+take_past (g ∷ good) more line (suc n) lt = let next = take_past good more line n (omega (arith, lt)) in (next.0, ap (λ xs. g ∷ xs) next.1)
+
+-- lines that agree break nothing
+good_faults : (qs : List ℕ) (e : Event) (good : List Line) → AreGood e qs good → flat_map (partner_faults qs e) good ≡ []
+good_faults qs e [] h = refl
+good_faults qs e (line ∷ good) h = let first = All-head (IsGood e qs) line good h in
+    let none : partner_faults qs e line ≡ [] = ap (λ o. refusals Interaction line.number (partner_rules qs e o)) first.value ∙ ap (refusals Interaction line.number) first.kept in
+    flat_map-cons (partner_faults qs e) line good ∙ ap (λ xs. xs ++ flat_map (partner_faults qs e) good) none ∙ good_faults qs e good (All-tail (IsGood e qs) line good h)
+
+-- what good lines and one behind them break
+past_good : (qs : List ℕ) (e : Event) (good behind : List Line) (line : Line) → AreGood e qs good
+    → flat_map (partner_faults qs e) (good ++ line ∷ behind) ≡ partner_faults qs e line ++ flat_map (partner_faults qs e) behind
+past_good qs e good behind line h = flat_map-append (partner_faults qs e) good (line ∷ behind)
+    ∙ ap (λ xs. xs ++ flat_map (partner_faults qs e) (line ∷ behind)) (good_faults qs e good h) ∙ flat_map-cons (partner_faults qs e) line behind
+
+-- what an event breaks whose first partner at fault stands behind good ones
+faults_past : (qs : List ℕ) (number : ℕ) (e : Event) (ls good more : List Line) (line : Line) → ls ≡ good ++ line ∷ more → length good < partner_count e ls → AreGood e qs good
+    → (behind : List Line) × (match_faults qs number e ls ≡ partner_faults qs e line ++ flat_map (partner_faults qs e) behind)
+faults_past qs number e ls good more line l lt h = let past = take_past good more line (partner_count e ls) lt in
+    let firsts : take (partner_count e ls) ls ≡ good ++ line ∷ past.0 = ap (take (partner_count e ls)) l ∙ past.1 in (
+      past.0,
+      ap (λ ms. ms ++ flat_map (partner_faults qs e) (take (partner_count e ls) ls)) (none_missing number e ls (λ o. omega (arith, lt)))
+          ∙ ap (flat_map (partner_faults qs e)) firsts ∙ past_good qs e good past.0 line h,
+    )
 
 -- a query's partner doesn't go by the assumptions
 query_partner : (qs rs : List ℕ) (c : List ℕ) (f : Event) → pair_faults qs (events.Query c) f ≡ pair_faults rs (events.Query c) f
@@ -61,15 +109,19 @@ query_partner qs rs c (events.Query d) = refl
 query_partner qs rs c (events.Status d) = refl
 query_partner qs rs c (events.Model d) = refl
 query_partner qs rs c (events.Core d) = refl
+query_partner qs rs c (events.Values d) = refl
+query_partner qs rs c (events.Failed d) = refl
 
 query_rules : (qs rs : List ℕ) (c : List ℕ) (o : Result Event Rule) → partner_rules qs (events.Query c) o ≡ partner_rules rs (events.Query c) o
 query_rules qs rs c (Ok f) = query_partner qs rs c f
 query_rules qs rs c (Err r) = refl
 
+query_faults : (qs rs : List ℕ) (c : List ℕ) (line : Line) → partner_faults qs (events.Query c) line ≡ partner_faults rs (events.Query c) line
+query_faults qs rs c line = ap (refusals Interaction line.number) (query_rules qs rs c (value_of icnf_line line))
+
 query_matches : (qs rs : List ℕ) (number : ℕ) (c : List ℕ) (ls : List Line) → match_faults qs number (events.Query c) ls ≡ match_faults rs number (events.Query c) ls
-query_matches qs rs number c [] = refl
-query_matches qs rs number c (line ∷ more) = let o = value_of icnf_line line in
-    partner_says qs number (events.Query c) line more o refl ∙ ap (refusals Interaction line.number) (query_rules qs rs c o) ∙ sym (partner_says rs number (events.Query c) line more o refl)
+query_matches qs rs number c ls = let same : partner_faults qs (events.Query c) ≡ partner_faults rs (events.Query c) = fun_ext (query_faults qs rs c) in
+    ap (λ f. missing_partner number (events.Query c) ls ++ flat_map f (take (partner_count (events.Query c) ls) ls)) same
 
 kept : (es : List Event) (e : Event) → query_of e ≡ None → assumed (es ++ e ∷ []) ≡ assumed es
 kept es e q = rw (filter_map-append, q, append-nil) refl
@@ -81,6 +133,8 @@ same_matches es number (events.Input c) ls = ap (λ qs. match_faults qs number (
 same_matches es number (events.Status s) ls = ap (λ qs. match_faults qs number (events.Status s) ls) (sym (kept es (events.Status s) refl))
 same_matches es number (events.Model m) ls = ap (λ qs. match_faults qs number (events.Model m) ls) (sym (kept es (events.Model m) refl))
 same_matches es number (events.Core u) ls = ap (λ qs. match_faults qs number (events.Core u) ls) (sym (kept es (events.Core u) refl))
+same_matches es number (events.Values u) ls = ap (λ qs. match_faults qs number (events.Values u) ls) (sym (kept es (events.Values u) refl))
+same_matches es number (events.Failed u) ls = ap (λ qs. match_faults qs number (events.Failed u) ls) (sym (kept es (events.Failed u) refl))
 
 -- ---- How many
 
@@ -160,9 +214,9 @@ module _ {S : Type 0} (form : ProofForm S) (stands : List S → Type 0) (queries
       }
 
   -- it breaks a rule of syntax
-  pub line_broken : (interaction p q : Place) (ta tb : List ℕ) (r : Rule) → Checking form stands (at queries interaction p) a ta b tb → Breaks form.read r p tb q ⊎ BehindCut r p tb → Refused Proof q.line r ≡ verdict_by form a b
-  line_broken interaction p q ta tb r k (inr c) = absurd (not_behind_cut r p tb k.proof_cut c)
-  line_broken interaction p q ta tb r k (inl s) = let ls = later interaction ta in
+  pub line_broken : (interaction p q : Place) (ta tb tc : List ℕ) (r : Rule) → Checking form stands (at queries interaction p) a ta b tb → Breaks form.read r p tb q tc ⊎ BehindCut r p tb q tc → Refused Proof q.line r ≡ verdict_by form a b
+  line_broken interaction p q ta tb tc r k (inr c) = absurd (not_behind_cut r p q tb tc k.proof_cut c)
+  line_broken interaction p q ta tb tc r k (inl s) = let ls = later interaction ta in
       refused_first form Proof q.line r [] a b (k.faults ∙ ap (λ xs. faults_from form k.steps (end_line b) xs ls) s.lines ∙ line_says form k.steps (end_line b) s.line s.more ls (Err r) s.rule
       ∙ ap (λ n. refusal Proof n r ∷ []) s.number)
 
@@ -212,49 +266,71 @@ module _ {S : Type 0} (form : ProofForm S) (stands : List S → Type 0) (queries
     proof_cut = k.proof_cut;
   }
 
-  -- what the event breaks with the line that comes next, and what comes behind it
-  partner_is : (interaction proof : Place) (ta tb : List ℕ) (e : Event) (line : Line) (more : List Line) (v : Result Event Rule) (k : AtEvent form stands (at queries interaction proof) (Some e) a ta b tb)
-      → later interaction ta ≡ line ∷ more → value_of icnf_line line ≡ v
-      → pair_refusals form a b ≡ refusals Interaction line.number (partner_rules (assumed (filter_map form.event k.steps)) e v) ++ faults_from form k.steps (end_line b) (later proof tb) more
-  partner_is interaction proof ta tb e line more v k l h = k.faults
-      ∙ ap (λ ls. match_faults (assumed (filter_map form.event k.steps)) proof.line e ls ++ faults_from form k.steps (end_line b) (later proof tb) (drop (partner_count e ls) ls)) l
-      ∙ ap (λ rs. rs ++ faults_from form k.steps (end_line b) (later proof tb) more) (partner_says (assumed (filter_map form.event k.steps)) proof.line e line more v h)
+  -- the faults of the pair where the event's partners are these
+  faults_are : (p proof : Place) (ta tb : List ℕ) (e : Event) (k : AtEvent form stands (at queries p proof) (Some e) a ta b tb) (qs : List ℕ) → qs ≡ assumed (filter_map form.event k.steps)
+      → pair_refusals form a b ≡ match_faults qs proof.line e (later p ta)
+      ++ faults_from form k.steps (end_line b) (later proof tb) (drop (partner_count e (later p ta)) (later p ta))
+  faults_are p proof ta tb e k qs same = let ls = later p ta in
+      k.faults ∙ ap (λ xs. match_faults xs proof.line e ls ++ faults_from form k.steps (end_line b) (later proof tb) (drop (partner_count e ls) ls)) (sym same)
 
-  -- the partner agrees
-  pub partner_agrees : (qs : List ℕ) (p q proof : Place) (ta ua tb : List ℕ) (e : Event) (n : ℕ) → AtEvent form stands (at queries p proof) (Some e) a ta b tb
-      → ((ps : List S) → stands ps → qs ≡ assumed (filter_map form.event ps)) → Meets e qs None p ta q ua → n ≡ queries + query_count (Some e) → Checking form stands (at n q proof) a ua b tb
-  partner_agrees qs p q proof ta ua tb e n k same m c = let s = m.says in let more = faults_from form k.steps (end_line b) (later proof tb) (later q ua) in record {
-    steps = k.steps;
-    behind = k.behind;
-    faults = partner_is p proof ta tb e s.line (later q ua) (Ok m.partner) k s.lines s.value
-        ∙ ap (λ xs. refusals Interaction s.line.number (pair_faults xs e m.partner) ++ more) (sym (same k.steps k.behind))
-        ∙ ap (λ rs. refusals Interaction s.line.number rs ++ more) (got_none (pair_faults qs e m.partner) m.rule);
-    count = let d = k.count in omega (arith, c, d);
-    last = k.last;
-    interaction_cut = cut_behind icnf_line s.line m.partner p q ta ua s.lines s.value s.cut k.interaction_cut;
-    proof_cut = k.proof_cut;
-  }
+  -- all partners agree
+  pub partners_agree : (qs : List ℕ) (p q proof : Place) (ta ua tb : List ℕ) (e : Event) (n : ℕ) → AtEvent form stands (at queries p proof) (Some e) a ta b tb
+      → ((ps : List S) → stands ps → qs ≡ assumed (filter_map form.event ps)) → AllAgree e qs (partner_count e (later p ta)) p ta q ua → n ≡ queries + query_count (Some e) → Checking form stands (at n q proof) a ua b tb
+  partners_agree qs p q proof ta ua tb e n k same m c =
+      let ls = later p ta in
+      let count = partner_count e ls in
+      let rest = faults_from form k.steps (end_line b) (later proof tb) in
+      let whole : ls ≡ take count ls ++ later q ua = sym (take-append-drop count ls) ∙ ap (λ xs. take count ls ++ xs) (sym m.lines) in record {
+        steps = k.steps;
+        behind = k.behind;
+        faults = faults_are p proof ta tb e k qs (same k.steps k.behind)
+            ∙ ap (λ ms. (ms ++ flat_map (partner_faults qs e) (take count ls)) ++ rest (drop count ls)) (none_missing proof.line e ls m.found)
+            ∙ ap (λ ms. ms ++ rest (drop count ls)) (good_faults qs e (take count ls) m.good) ∙ ap rest (sym m.lines);
+        count = let d = k.count in omega (arith, c, d);
+        last = k.last;
+        interaction_cut = record {
+          comes = λ cut. cut_behind_good e qs (take count ls) (later q ua) m.good
+              (subst EndsCut whole (k.interaction_cut.comes (sym m.cut ∙ cut)));
+        };
+        proof_cut = k.proof_cut;
+      }
 
-  -- it breaks a rule as a partner
+  -- a partner behind good ones breaks these rules
+  refused_past : (qs : List ℕ) (p q proof : Place) (ta ua tb : List ℕ) (e : Event) (r : Rule) (rs : List Rule) (good more : List Line) (line : Line)
+      (k : AtEvent form stands (at queries p proof) (Some e) a ta b tb) → qs ≡ assumed (filter_map form.event k.steps)
+      → StandsBehind e qs (partner_count e (later p ta)) good line more p ta q ua → partner_faults qs e line ≡ refusals Interaction line.number (r ∷ rs)
+      → Refused Interaction q.line r ≡ verdict_by form a b
+  refused_past qs p q proof ta ua tb e r rs good more line k same m f =
+      let ls = later p ta in
+      let rest = faults_from form k.steps (end_line b) (later proof tb) (drop (partner_count e ls) ls) in
+      let past = faults_past qs proof.line e ls good more line m.lines m.within m.are_good in
+      refused_first form Interaction q.line r _ a b (faults_are p proof ta tb e k qs same
+      ∙ ap (λ ms. ms ++ rest) past.1
+      ∙ ap (λ fs. (fs ++ flat_map (partner_faults qs e) past.0) ++ rest) f
+      ∙ ap (λ n. (refusals Interaction n (r ∷ rs) ++ flat_map (partner_faults qs e) past.0) ++ rest) m.number)
+
+  -- a partner breaks a rule with the event
   pub partner_differs : (qs : List ℕ) (p q proof : Place) (ta ua tb : List ℕ) (e : Event) (r : Rule) → AtEvent form stands (at queries p proof) (Some e) a ta b tb
-      → ((ps : List S) → stands ps → qs ≡ assumed (filter_map form.event ps)) → Meets e qs (Some r) p ta q ua → Refused Interaction q.line r ≡ verdict_by form a b
-  partner_differs qs p q proof ta ua tb e r k same m = let s = m.says in let more = faults_from form k.steps (end_line b) (later proof tb) (later q ua) in
-      let first = got_some r (pair_faults qs e m.partner) m.rule in
-      refused_first form Interaction q.line r _ a b (partner_is p proof ta tb e s.line (later q ua) (Ok m.partner) k s.lines s.value
-      ∙ ap (λ xs. refusals Interaction s.line.number (pair_faults xs e m.partner) ++ more) (sym (same k.steps k.behind))
-      ∙ ap (λ rs. refusals Interaction s.line.number rs ++ more) first.is ∙ ap (λ n. refusals Interaction n (r ∷ first.more) ++ more) s.number)
+      → ((ps : List S) → stands ps → qs ≡ assumed (filter_map form.event ps)) → OneDiffers e qs (partner_count e (later p ta)) r p ta q ua → Refused Interaction q.line r ≡ verdict_by form a b
+  partner_differs qs p q proof ta ua tb e r k same m = let first = got_some r (pair_faults qs e m.partner) m.rule in
+      refused_past qs p q proof ta ua tb e r first.more m.good (later q ua) m.line k (same k.steps k.behind) m.stands
+      (ap (λ o. refusals Interaction m.line.number (partner_rules qs e o)) m.value ∙ ap (refusals Interaction m.line.number) first.is)
 
   -- it breaks a rule of syntax
-  pub partner_broken : (p q proof : Place) (ta tb : List ℕ) (e : Event) (r : Rule) → AtEvent form stands (at queries p proof) (Some e) a ta b tb
-      → Breaks icnf_line r p ta q ⊎ BehindCut r p ta → Refused Interaction q.line r ≡ verdict_by form a b
-  partner_broken p q proof ta tb e r k (inr c) = absurd (not_behind_cut r p ta k.interaction_cut c)
-  partner_broken p q proof ta tb e r k (inl s) = refused_first form Interaction q.line r _ a b (partner_is p proof ta tb e s.line s.more (Err r) k s.lines s.rule
-      ∙ ap (λ n. refusal Interaction n r ∷ faults_from form k.steps (end_line b) (later proof tb) s.more) s.number)
+  pub partner_broken : (qs : List ℕ) (p q proof : Place) (ta ua tb : List ℕ) (e : Event) (r : Rule) → AtEvent form stands (at queries p proof) (Some e) a ta b tb
+      → ((ps : List S) → stands ps → qs ≡ assumed (filter_map form.event ps))
+      → OneBreaks e qs (partner_count e (later p ta)) r p ta q ua ⊎ CutBehindRun e qs r p ta q ua → Refused Interaction q.line r ≡ verdict_by form a b
+  partner_broken qs p q proof ta ua tb e r k same (inr c) = absurd (cut_behind_good e qs (later p ta) [] c.good
+      (subst EndsCut (sym (append-nil (later p ta))) (k.interaction_cut.comes c.cut)))
+  partner_broken qs p q proof ta ua tb e r k same (inl m) = refused_past qs p q proof ta ua tb e r [] m.good m.more m.line k (same k.steps k.behind) m.stands
+      (ap (λ o. refusals Interaction m.line.number (partner_rules qs e o)) m.rule)
 
-  -- no line is left
-  pub partner_missing : (p q proof : Place) (ta ua tb : List ℕ) (e : Event) → AtEvent form stands (at queries p proof) (Some e) a ta b tb → AtEnd p ta q ua → Refused Proof proof.line rules.Ended ≡ verdict_by form a b
-  partner_missing p q proof ta ua tb e k end = refused_first form Proof proof.line rules.Ended _ a b (k.faults
-      ∙ ap (λ ls. match_faults (assumed (filter_map form.event k.steps)) proof.line e ls ++ faults_from form k.steps (end_line b) (later proof tb) (drop (partner_count e ls) ls)) end.none)
+  -- no line is left, and a partner is owed
+  pub partner_missing : (p q proof : Place) (ta ua tb : List ℕ) (e : Event) → AtEvent form stands (at queries p proof) (Some e) a ta b tb → LacksPartner e p ta q ua → Refused Proof proof.line rules.Ended ≡ verdict_by form a b
+  partner_missing p q proof ta ua tb e k m = let qs = assumed (filter_map form.event k.steps) in let rest = faults_from form k.steps (end_line b) (later proof tb) in
+      refused_first form Proof proof.line rules.Ended _ a b (k.faults
+      ∙ ap (λ ls. match_faults qs proof.line e ls ++ rest (drop (partner_count e ls) ls)) m.end.none
+      ∙ ap (λ o. ((if o then refusal Proof proof.line rules.Ended ∷ [] else []) ++ flat_map (partner_faults qs e) (take (partner_count e []) [])) ++ rest (drop (partner_count e []) [])) m.owes)
 
   -- ---- The proof's end
 

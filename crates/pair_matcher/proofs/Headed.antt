@@ -5,7 +5,7 @@ use Rattle.session_rules.specs.declared.Rule.{Rule}
 use Rattle.session_rules.specs.declared.Rule.TheVariants as rules
 use Rattle.session_rules.specs.Lines.{Line, lines, lines_within, end_line, end_line_within}
 use Rattle.session_rules.specs.Reading.{value_of, header_line, header_fault, first_fault, rule_or_none, with_number}
-use Rattle.slice_tokens.specs.Place.{Place, WhereTold, at_start, ahead, later, following, last_line}
+use Rattle.slice_tokens.specs.Place.{Place, WhereTold, at_start, ahead, later, lines_behind, following, last_line}
 use Rattle.line_reading.specs.Whole.{Says, Breaks, BehindCut}
 use Rattle.icnf_lines.specs.declared.header.HeaderFault.TheVariants.{Syntax}
 use Rattle.icnf_lines.specs.Headers.{HeaderAnswers, Headless}
@@ -14,7 +14,7 @@ use Rattle.pair_matcher.specs.Checks.{IsBehindHeader, PassesHeader}
 use Rattle.pair_matcher.proofs.CutLines.{cut_at_start, not_behind_cut, cut_behind}
 
 lines_at_start : (bytes : List ℕ) → later at_start bytes ≡ lines bytes
-unfolding later following lines lines_within
+unfolding later lines_behind following lines lines_within
 lines_at_start bytes = refl
 
 last_at_start : (bytes : List ℕ) → last_line at_start bytes ≡ end_line bytes
@@ -38,9 +38,9 @@ header_read name q bytes rest s = let e : lines bytes ≡ s.line ∷ later q res
 }
 
 header_broken : (name : List ℕ) (r : Rule) (q : Place) (bytes rest : List ℕ)
-    → Breaks (header_line name) r at_start bytes q ⊎ (BehindCut r at_start bytes ⊎ Headless r at_start bytes q rest) → header_fault name bytes ≡ Some (q.line, r)
+    → Breaks (header_line name) r at_start bytes q rest ⊎ (BehindCut r at_start bytes q rest ⊎ Headless r at_start bytes q rest) → header_fault name bytes ≡ Some (q.line, r)
 header_broken name r q bytes rest (inl b) = line_fault name bytes b.line b.more (Err r) (sym (lines_at_start bytes) ∙ b.lines) b.rule ∙ ap (λ n. Some (n, r)) b.number
-header_broken name r q bytes rest (inr (inl b)) = absurd (not_behind_cut r at_start bytes (cut_at_start bytes) b)
+header_broken name r q bytes rest (inr (inl b)) = absurd (not_behind_cut r at_start q bytes rest (cut_at_start bytes) b)
 header_broken name r q bytes rest (inr (inr h)) = fault_by name bytes [] (sym (lines_at_start bytes) ∙ h.end.none)
     ∙ ap (λ n. Some (n, rules.Header)) (sym (h.end.line ∙ last_at_start bytes)) ∙ ap (λ x. Some (q.line, x)) (sym h.rule)
 

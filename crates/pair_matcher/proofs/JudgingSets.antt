@@ -111,6 +111,16 @@ module _ (m n : Clauses) (next after : ℕ) (s t : State) (answer : Option Rule)
       pub model_done : own_answer ≡ None → TakesEvent s t (events.Model c) → Judged (holding m next s) (holding m next t) (steps.Event (events.Model c)) None
       model_done is takes = goes_on m next s m next t (steps.Event (events.Model c)) (λ ps a. model_rest ps a ∙ is) (after_event m next s t (events.Model c) refl takes)
 
+-- ---- Parts of models and of cores, which have no place in a proof
+
+pub values_order : (m : Clauses) (next : ℕ) (s : State) (c : List ℕ) → Judged (holding m next s) (holding m next s) (steps.Event (events.Values c)) (Some rules.Order)
+unfolding own_faults
+values_order m next s c = stops m next s m next s (steps.Event (events.Values c)) rules.Order (λ ps a. refl)
+
+pub failed_order : (m : Clauses) (next : ℕ) (s : State) (c : List ℕ) → Judged (holding m next s) (holding m next s) (steps.Event (events.Failed c)) (Some rules.Order)
+unfolding own_faults
+failed_order m next s c = stops m next s m next s (steps.Event (events.Failed c)) rules.Order (λ ps a. refl)
+
 -- ---- Cores
 
 -- the test of closing over an engine whose clauses are these

@@ -1,4 +1,4 @@
-// The check of a pair, line by line. Each line of the proof is read, judged by itself, and held against its partner where it is
+// The check of a pair, line by line. Each line of the proof is read, judged by itself, and held against its partners where it is
 // an event; so the first fault that is met is the first of all, and the check ends with it.
 
 ghost use Rattle.std.specs.Prelude.{codes, ◌≡◌, ℕ, ◌+◌, ◌<◌, ◌≤◌, ◌^◌, true, List, Option, Some, None, Err, All, length, max, OnOk, OnErr, IfOk, IfNone, IfSome, IsErrOf};
@@ -91,9 +91,12 @@ fn into_literals(event: Event) -> Option<Lits>
     ensures { IfSome result (λ ls. ls ≡ event_literals event) }
 {
     match event {
-        Event::Input(lits) | Event::Query(lits) | Event::Model(lits) | Event::Core(lits) => {
-            Some(lits)
-        }
+        Event::Input(lits)
+        | Event::Query(lits)
+        | Event::Model(lits)
+        | Event::Core(lits)
+        | Event::Values(lits)
+        | Event::Failed(lits) => Some(lits),
         Event::Status(_) => None,
     }
 }
@@ -107,7 +110,7 @@ fn reserve_marks<P: ProofSide>(marks: &mut Marks, side: &P, event: &Event) -> Re
     marks.reserve(variable)
 }
 
-// Holds the interaction's next line against an event of the proof.
+// Holds the interaction's next lines, as far as they are partners of an event of the proof, against it.
 fn take_event<A: Source, P: ProofSide>(
     c: &mut Check<P>,
     interaction: &mut A,

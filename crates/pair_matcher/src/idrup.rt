@@ -238,6 +238,9 @@ fn judge_event(p: &mut Parts, event: &Event) -> Result<Option<Rule>, AllocError>
             Ok(judge_model(p, lits.as_slice()))
         }
         Event::Core(lits) => Ok(judge_core(p, lits.as_slice())),
+        // Parts of a model or of a core have no place in a proof.
+        Event::Values(_) => Ok(Some(Rule::Order)),
+        Event::Failed(_) => Ok(Some(Rule::Order)),
     }
 }
 

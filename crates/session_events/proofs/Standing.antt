@@ -76,6 +76,16 @@ stands_behind s (events.Core u) es h = record {
   assumed = h.assumed ∙ sym (assumed-same es (events.Core u) refl);
   inputs = h.inputs ∙ sym (inputs-same es (events.Core u) refl);
 }
+stands_behind s (events.Values u) es h = record {
+  phase = sym (phase-push es (events.Values u));
+  assumed = h.assumed ∙ sym (assumed-same es (events.Values u) refl);
+  inputs = h.inputs ∙ sym (inputs-same es (events.Values u) refl);
+}
+stands_behind s (events.Failed u) es h = record {
+  phase = sym (phase-push es (events.Failed u));
+  assumed = h.assumed ∙ sym (assumed-same es (events.Failed u) refl);
+  inputs = h.inputs ∙ sym (inputs-same es (events.Failed u) refl);
+}
 
 -- ---- The rules by the state are the faults of the event
 
@@ -99,6 +109,8 @@ fits-kind (events.Core u) Asked = refl
 fits-kind (events.Core u) (Told Satisfiable) = refl
 fits-kind (events.Core u) (Told Unsatisfiable) = refl
 fits-kind (events.Core u) (Told Unknown) = refl
+fits-kind (events.Values u) p = refl
+fits-kind (events.Failed u) p = refl
 
 pub order_rules-stands : (s : State) (es : List Event) (e : Event) → StandsFor s es → order_rules s (kind_of e) ≡ order_faults es e
 order_rules-stands s es e h = ap (λ z. broken_unless z rules.Order) (fits-kind e s.phase ∙ ap (fits_phase e) h.phase)

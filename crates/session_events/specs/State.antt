@@ -42,6 +42,8 @@ behind s (events.Query ls) = record s { phase = Asked; assumed = ls }
 behind s (events.Status w) = record s { phase = history.phase_told w }
 behind s (events.Model ls) = record s { phase = Idle }
 behind s (events.Core ls) = record s { phase = Idle }
+behind s (events.Values ls) = record s { phase = Idle }
+behind s (events.Failed ls) = record s { phase = Idle }
 
 -- the variable of each literal is reserved
 abbrev pub AreReserved : State → List ℕ → Type 0
@@ -56,6 +58,8 @@ kind_of (events.Query ls) = kinds.Query
 kind_of (events.Status w) = kinds.Status
 kind_of (events.Model ls) = kinds.Model
 kind_of (events.Core ls) = kinds.Core
+kind_of (events.Values ls) = kinds.Part
+kind_of (events.Failed ls) = kinds.Part
 
 -- whether an event of this kind fits a phase
 abbrev pub fits : Kind → Phase → Bool

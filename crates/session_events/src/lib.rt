@@ -25,7 +25,7 @@ use session_rules::{Event, Phase, Rule, StatusWord};
 use std::alloc::{AllocError, Global};
 use std::marker::Model;
 
-/// The kinds of events.
+/// The kinds of events. A part of a model or of a core has no place in a proof, and fits no phase.
 #[derive(Clone, Copy, Debug, PartialEq, Eq)]
 pub enum Kind {
     Input,
@@ -33,6 +33,7 @@ pub enum Kind {
     Status,
     Model,
     Core,
+    Part,
 }
 
 impl Kind {
@@ -46,6 +47,7 @@ impl Kind {
             Event::Status(_) => Kind::Status,
             Event::Model(_) => Kind::Model,
             Event::Core(_) => Kind::Core,
+            Event::Values(_) | Event::Failed(_) => Kind::Part,
         }
     }
 
@@ -59,6 +61,7 @@ impl Kind {
             Kind::Status => matches!(phase, Phase::Asked),
             Kind::Model => matches!(phase, Phase::Told(StatusWord::Satisfiable)),
             Kind::Core => matches!(phase, Phase::Told(StatusWord::Unsatisfiable)),
+            Kind::Part => false,
         }
     }
 }

@@ -123,6 +123,8 @@ justified-push ps (steps.Event (events.Query d)) e j = justified-keep ps (steps.
 justified-push ps (steps.Event (events.Status s)) e j = justified-keep ps (steps.Event (events.Status s)) refl refl j
 justified-push ps (steps.Event (events.Model m)) e j = justified-keep ps (steps.Event (events.Model m)) refl refl j
 justified-push ps (steps.Event (events.Core u)) e j = justified-keep ps (steps.Event (events.Core u)) refl refl j
+justified-push ps (steps.Event (events.Values m)) e j = justified-keep ps (steps.Event (events.Values m)) refl refl j
+justified-push ps (steps.Event (events.Failed u)) e j = justified-keep ps (steps.Event (events.Failed u)) refl refl j
 justified-push ps (steps.Lemma d) e j = justified-add ps (steps.Lemma d) d refl refl refl
     (Entails-push ps (steps.Lemma d) d (lemma_entailed ps d j (broken_unless_kept _ rules.Lemma e))) j
 justified-push ps (steps.Delete d) e j = justified-keep ps (steps.Delete d) refl refl j

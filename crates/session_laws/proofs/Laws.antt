@@ -1,11 +1,10 @@
 -- The laws of proofs without own faults, from what each step keeps.
-use Rattle.std.proofs.Common.{◌≡◌, ℕ, suc, ◌<◌, ◌⊎◌, Bool, true, false, List, [], ◌∷◌, ◌++◌, length, map, filter, filter_map, is_some, Option, Some, None, IsTrue, refl, sym, ap, ◌∙◌, subst, inl, inr, arith, append_assoc, append-nil}
+use Rattle.std.proofs.Common.{◌≡◌, ℕ, suc, ◌<◌, ◌⊎◌, Bool, true, false, List, [], ◌∷◌, ◌++◌, length, map, filter, filter_map, Option, Some, IsTrue, refl, sym, ap, ◌∙◌, subst, inl, inr, append_assoc, append-nil}
 use Rattle.std.proofs.lemmas.Bool.{and_parts, and_from, or_cases, cases_Bool}
 use Rattle.std.proofs.lemmas.List.Sums.{length-filter}
 use Rattle.lits.specs.Literal.{neg}
 use Rattle.session_rules.specs.declared.Rule.{Rule}
 use Rattle.session_rules.specs.declared.Rule.TheVariants as rules
-use Rattle.session_rules.specs.declared.Standing.{Standing}
 use Rattle.session_rules.specs.declared.Standing.TheVariants.{Active, Weakened, Absent}
 use Rattle.session_rules.specs.declared.Event.{Event}
 use Rattle.session_rules.specs.declared.Event.TheVariants as events
@@ -13,15 +12,15 @@ use Rattle.session_rules.specs.declared.Step.{Step}
 use Rattle.session_rules.specs.declared.Step.TheVariants as steps
 use Rattle.session_rules.specs.declared.LStep.{LStep}
 use Rattle.session_rules.specs.declared.LStep.TheVariants as lsteps
-use Rattle.session_rules.specs.Logic.{has, is_part, same_set, satisfies, satisfies_clause, satisfies_each, satisfies_formula, Implies, Contradicts, IsSatisfiable}
-use Rattle.session_rules.specs.History.{inputs, assumed, order_faults, model_faults, core_faults, first_missing}
-use Rattle.session_rules.specs.Own.{added_clause, removed_clause, weakened_clause, restored_clause, copies, active_copies, weakened_copies, events_of, own_faults, standing_after, clause_of, id_events_of, own_id_faults, hint_faults}
-use Rattle.lits.proofs.Members.{all_at, all_from, has_at, has_from}
+use Rattle.session_rules.specs.Logic.{has, is_part, same_set, satisfies, satisfies_clause, satisfies_each, Implies, Contradicts, IsSatisfiable}
+use Rattle.session_rules.specs.History.{inputs, assumed, order_faults, model_faults, core_faults}
+use Rattle.session_rules.specs.Own.{added_clause, removed_clause, weakened_clause, restored_clause, copies, active_copies, weakened_copies, events_of, own_faults, standing_after, clause_of, id_events_of, own_id_faults}
+use Rattle.lits.proofs.Members.{all_at, all_from, has_at}
 use Rattle.session_rules.proofs.Closing.{satisfies-neg}
 use Rattle.session_laws.specs.Keeping.{WithoutOwnFaults}
 use Rattle.session_laws.proofs.Justified.{Entails, Justified, justified-push}
 use Rattle.session_laws.proofs.IdsJustified.{IdsJustified, ids-justified-push, none_broken, first_nil}
-use Rattle.session_laws.proofs.Certify.{missing_none, model_certified, SameSets, SoundContent}
+use Rattle.session_laws.proofs.Certify.{missing_none, own_part, same_history, model_certified}
 use Rattle.session_laws.proofs.Accepted.{nothing_justified, no_ids_justified, sound_event, sound_with_ids}
 
 -- ---- From step to step
@@ -69,15 +68,8 @@ ids_kept ps w id c h is = implied (inputs (id_events_of ps)) c (ids_justified ps
 
 -- ---- Models and cores
 
-none_missing : (ls ms : List ℕ) → is_part ls ms ≡ true → first_missing ls ms ≡ None
-none_missing [] ms h = refl
-none_missing (l ∷ ls) ms h = let parts = and_parts (has ms l) (is_part ls ms) h in rw parts.0 (none_missing ls ms parts.1)
-
-own_part : (ls : List ℕ) → is_part ls ls ≡ true
-own_part ls = all_from (has ls) ls (λ l k. has_from ls l k)
-
 model_of : (es : List Event) (m : List ℕ) → model_faults es m ≡ [] → IsSatisfiable (inputs es) (assumed es ++ m)
-model_of es m kept = model_certified es es m m (record { clauses = λ v. refl; literals = λ l. refl }) kept (none_missing m m (own_part m))
+model_of es m kept = model_certified es es m m (same_history es) kept (own_part m)
 
 pub model_satisfies : (ps : List Step) (m : List ℕ) → own_faults ps (steps.Event (events.Model m)) ≡ [] → IsSatisfiable (inputs (events_of ps)) (assumed (events_of ps) ++ m)
 unfolding own_faults

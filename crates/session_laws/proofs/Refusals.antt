@@ -1,24 +1,25 @@
 -- A refusal names a line that is there, and what stands before it keeps its rules.
-use Rattle.std.proofs.Common.{◌≡◌, ℕ, zero, suc, ◌+◌, ◌<◌, ◌≤◌, Bool, List, [], ◌∷◌, length, drop, filter, Contains, slice_get, Option, Some, None, codes, refl, sym, ap, subst, inl, inr, arith}
+use Rattle.std.proofs.Common.{◌≡◌, ℕ, zero, suc, ◌+◌, ◌<◌, ◌≤◌, Bool, List, [], ◌∷◌, length, take, drop, filter, Contains, slice_get, Option, Some, None, codes, refl, sym, ap, subst, inl, inr, arith}
 use Rattle.std.proofs.lemmas.Bool.{cases_lt, cases_Bool}
 use Rattle.std.proofs.lemmas.Option.{slice_get_within, get_or_from_slice_get}
 use Rattle.lits.proofs.Members.{here, there}
 use Rattle.session_rules.specs.declared.Form.{Form}
 use Rattle.session_rules.specs.declared.Side.{Side}
 use Rattle.session_rules.specs.declared.Side.TheVariants.{Interaction, Proof}
+use Rattle.session_rules.specs.declared.Event.{Event}
 use Rattle.session_rules.specs.declared.Rule.{Rule}
 use Rattle.session_rules.specs.declared.Rule.TheVariants as rules
 use Rattle.session_rules.specs.declared.Verdict.TheVariants.{Refused}
 use Rattle.session_rules.specs.Lines.{Line, lines, lines_within, all_lines, numbered, end_line, counts}
 use Rattle.session_rules.specs.Reading.{broken, header_line, with_number, first_fault, header_fault}
 use Rattle.session_rules.specs.Numbers.{rule_number}
-use Rattle.session_rules.specs.Pair.{Refusal, refusal, verdict}
-use Rattle.session_rules.specs.Verdicts.{StepOf, rules_of, body, steps_in, events_among, OwnFault, IsOwnFault, partner, IsFault, IsFirst, IsVerdict}
+use Rattle.session_rules.specs.Pair.{partner_count, Refusal, refusal, verdict}
+use Rattle.session_rules.specs.Verdicts.{StepOf, rules_of, body, steps_in, events_among, OwnFault, IsOwnFault, lines_taken, partners, IsFault, IsFirst, IsVerdict}
 use Rattle.session_rules.specs.Keys.{Key, rank, IsAtMost}
 use Rattle.session_rules.specs.Verdicts as faults
-use Rattle.session_rules.proofs.Positions.{said_at, take_all}
+use Rattle.session_rules.proofs.Positions.{said_at}
 use Rattle.session_rules.proofs.Ascending.{Ascends, ascends_weaken, above_low}
-use Rattle.session_rules.proofs.RuleNumbers.{own_rule_number, pair_rule_number}
+use Rattle.session_rules.proofs.RuleNumbers.{own_rule_number}
 use Rattle.session_rules.proofs.LeastFault.{verdict_least, keeps_from_none}
 use Rattle.session_laws.specs.Refusals.{file_of, IsLineOf, KeepsItsRules, KeepRules, ProofRefused, InteractionRefused}
 
@@ -74,6 +75,23 @@ line_in (x ∷ xs) k l e = there x l xs (k, slice_get_within xs k l e, get_or_fr
 line_of_body : (bytes : List ℕ) (k : ℕ) (l : Line) → slice_get (body bytes) k ≡ Some l → IsLineOf bytes l.number
 line_of_body bytes k l e = inl (l, line_in (lines bytes) k l e, refl)
 
+-- a partner is one of the lines that are left
+line_of_partner : (form : Form) (a : List ℕ) (ps : List (StepOf form)) (k n : ℕ) (e : Event) (l : Line) → slice_get (partners form a ps k e) n ≡ Some l → IsLineOf a l.number
+line_of_partner form a ps k n e l is =
+    let taken = lines_taken (events_among form (take k ps)) (body a) in
+    line_of_body a (taken + n) l (get_behind (body a) taken n l (get_taken (drop taken (body a)) (partner_count e (drop taken (body a))) n l is))
+  where
+    get_taken : (ls : List Line) (count n : ℕ) (l : Line) → slice_get (take count ls) n ≡ Some l → slice_get ls n ≡ Some l
+    get_taken ls zero n l e = cc e
+    get_taken [] (suc count) n l e = cc e
+    get_taken (x ∷ xs) (suc count) zero l e = e
+    get_taken (x ∷ xs) (suc count) (suc n) l e = get_taken xs count n l e
+
+    get_behind : (ls : List Line) (count n : ℕ) (l : Line) → slice_get (drop count ls) n ≡ Some l → slice_get ls (count + n) ≡ Some l
+    get_behind ls zero n l e = let sum : n ≡ zero + n = omega arith in subst (λ k. slice_get ls k ≡ Some l) sum e
+    get_behind [] (suc count) n l e = cc e
+    get_behind (x ∷ xs) (suc count) n l e = let sum : suc (count + n) ≡ suc count + n = omega arith in subst (λ k. slice_get (x ∷ xs) k ≡ Some l) sum (get_behind xs count n l e)
+
 line_of_header : (name bytes : List ℕ) (number : ℕ) (rule : Rule) → header_fault name bytes ≡ Some (number, rule) → IsLineOf bytes number
 unfolding header_fault
 line_of_header name bytes number rule e = by_lines (lines bytes) (λ l m. m) e
@@ -95,9 +113,9 @@ own_line_is_there form a b _ _ (faults.unfinished whole busy) = inr refl
 line_is_there : (form : Form) (a b : List ℕ) (key : Key) (r : Refusal) → IsFault form a b key r → IsLineOf (file_of r.side a b) r.line
 line_is_there form a b _ _ (faults.interaction_header number rule e) = line_of_header (codes "icnf") a number rule e
 line_is_there form a b _ _ (faults.own key r f) = own_line_is_there form a b key r f
-line_is_there form a b _ _ (faults.ended k line e at step none) = line_of_body b k line at
-line_is_there form a b _ _ (faults.partner_broken k e m rule step is v) = line_of_body a _ m is
-line_is_there form a b _ _ (faults.pair_rule k m rule f) = line_of_body a _ m f.is_partner
+line_is_there form a b _ _ (faults.ended k line e at step owes none) = line_of_body b k line at
+line_is_there form a b _ _ (faults.partner_broken k n e m rule step is v) = line_of_partner form a (steps_in form b) k n e m is
+line_is_there form a b _ _ (faults.pair_rule k n m rule f) = line_of_partner form a (steps_in form b) k n f.event m f.is_partner
 line_is_there form a b _ _ (faults.surplus line whole at) = line_of_body a _ line at
 
 -- ---- What stands before it keeps its rules
@@ -119,11 +137,11 @@ module _ (form : Form) (a b : List ℕ) where
       let line = said_at (rules_of form).read (body b) k f.step f.is_step in
       later (rule_number rule) (own_rule_number form _ f.step rule f.breaks) (least _ _ (faults.own _ _ (faults.own_rule k line.0 rule line.1 f)))
 
-  later_step : (j k n m : ℕ) → j < k → IsAtMost (3 ∷ k ∷ n ∷ []) (3 ∷ j ∷ m ∷ []) → ⊥
-  later_step j k n m h g = elim g [ inl lt ↦ omega (arith, lt) | inr e ↦ elim e.1 [ inl lt ↦ omega (arith, h, lt) | inr same ↦ omega (arith, h, same.0) ] ]
+  later_step : (j k n m : ℕ) (rest : List ℕ) → j < k → IsAtMost (3 ∷ k ∷ n ∷ rest) (3 ∷ j ∷ m ∷ []) → ⊥
+  later_step j k n m rest h g = elim g [ inl lt ↦ omega (arith, lt) | inr e ↦ elim e.1 [ inl lt ↦ omega (arith, h, lt) | inr same ↦ omega (arith, h, same.0) ] ]
 
-  partner_later : (k n m : ℕ) → m < n → IsAtMost (3 ∷ k ∷ n ∷ []) (3 ∷ k ∷ m ∷ []) → ⊥
-  partner_later k n m h g = elim g [
+  partner_later : (k n m : ℕ) (rest : List ℕ) → m < n → IsAtMost (3 ∷ k ∷ n ∷ rest) (3 ∷ k ∷ m ∷ []) → ⊥
+  partner_later k n m rest h g = elim g [
     | inl lt ↦ omega (arith, lt)
     | inr e ↦ elim e.1 [
       | inl lt ↦ omega (arith, lt)
@@ -135,23 +153,23 @@ module _ (form : Form) (a b : List ℕ) where
   end_later j n m key h g = elim g [ inl lt ↦ omega (arith, h, lt) | inr same ↦ omega (arith, h, same.0) ]
 
   -- the proof's lines before line k keep their rules where the least key is that of a line k
-  lines_before : (k n : ℕ) → IsLeast (3 ∷ k ∷ n ∷ []) → k ≤ length (steps_in form b) → (j : ℕ) → j < k → KeepsItsRules form b j
-  lines_before k n least h j lt = record { says_step = omega (arith, h, lt); keeps = step_keeps j (3 ∷ k ∷ n ∷ []) least (λ m most. later_step j k n m lt) }
+  lines_before : (k n : ℕ) (rest : List ℕ) → IsLeast (3 ∷ k ∷ n ∷ rest) → k ≤ length (steps_in form b) → (j : ℕ) → j < k → KeepsItsRules form b j
+  lines_before k n rest least h j lt = record { says_step = omega (arith, h, lt); keeps = step_keeps j (3 ∷ k ∷ n ∷ rest) least (λ m most. later_step j k n m rest lt) }
 
-  before_line : (k n : ℕ) (line : Line) → IsLeast (3 ∷ k ∷ n ∷ []) → k ≤ length (steps_in form b) → slice_get (body b) k ≡ Some line → KeepRules form b (λ j l. l.number < line.number)
-  before_line k n line least h at = record {
-    header_spells = header_kept 3 (k ∷ n ∷ []) (omega arith) least;
-    lines_keep = λ j l is lt. lines_before k n least h j (body_before b j k l line is at lt);
+  before_line : (k n : ℕ) (rest : List ℕ) (line : Line) → IsLeast (3 ∷ k ∷ n ∷ rest) → k ≤ length (steps_in form b) → slice_get (body b) k ≡ Some line → KeepRules form b (λ j l. l.number < line.number)
+  before_line k n rest line least h at = record {
+    header_spells = header_kept 3 (k ∷ n ∷ rest) (omega arith) least;
+    lines_keep = λ j l is lt. lines_before k n rest least h j (body_before b j k l line is at lt);
   }
 
-  up_to_partner : (k n : ℕ) → 19 < n → IsLeast (3 ∷ k ∷ n ∷ []) → k < length (steps_in form b) → KeepRules form b (λ j l. j ≤ k)
-  up_to_partner k n more least h = record {
-    header_spells = header_kept 3 (k ∷ n ∷ []) (omega arith) least;
+  up_to_partner : (k : ℕ) (rest : List ℕ) → IsLeast (3 ∷ k ∷ 20 ∷ rest) → k < length (steps_in form b) → KeepRules form b (λ j l. j ≤ k)
+  up_to_partner k rest least h = record {
+    header_spells = header_kept 3 (k ∷ 20 ∷ rest) (omega arith) least;
     lines_keep = λ j l is le. elim (cases_lt j k) [
-      | inl lt ↦ lines_before k n least (omega (arith, h)) j lt
+      | inl lt ↦ lines_before k 20 rest least (omega (arith, h)) j lt
       | inr ge ↦ record {
         says_step = omega (arith, h, le);
-        keeps = step_keeps j (3 ∷ k ∷ n ∷ []) least (λ m most g. partner_later k n m (omega (arith, more, most)) (subst (λ z. IsAtMost (3 ∷ k ∷ n ∷ []) (3 ∷ z ∷ m ∷ [])) (omega (arith, le, ge)) g));
+        keeps = step_keeps j (3 ∷ k ∷ 20 ∷ rest) least (λ m most g. partner_later k 20 m rest (omega (arith, most)) (subst (λ z. IsAtMost (3 ∷ k ∷ 20 ∷ rest) (3 ∷ z ∷ m ∷ [])) (omega (arith, le, ge)) g));
       }
     ];
   }
@@ -179,33 +197,35 @@ module _ (form : Form) (a b : List ℕ) where
 
   own_says : (key : Key) (r : Refusal) → IsOwnFault form b key r → IsLeast (rank key) → Says r.side r.line r.rule
   own_says _ _ (faults.header number rule e) least = inl e
-  own_says _ _ (faults.broken_line k line rule at stops v) least = inr (before_line k 1 line least (omega (arith, stops)) at)
-  own_says _ _ (faults.own_rule k line rule at f) least = inr (before_line k (rule_number rule) line least (omega (arith, slice_get_within (steps_in form b) k f.step f.is_step)) at)
+  own_says _ _ (faults.broken_line k line rule at stops v) least = inr (before_line k 1 [] line least (omega (arith, stops)) at)
+  own_says _ _ (faults.own_rule k line rule at f) least = inr (before_line k (rule_number rule) [] line least (omega (arith, slice_get_within (steps_in form b) k f.step f.is_step)) at)
   own_says _ _ (faults.unfinished whole busy) least = inr (whole_proof 4 (omega arith) least whole _)
 
   says : (key : Key) (r : Refusal) → IsFault form a b key r → IsLeast (rank key) → Says r.side r.line r.rule
   says _ _ (faults.interaction_header number rule e) least = inl e
   says _ _ (faults.own key r f) least = own_says key r f least
-  says _ _ (faults.ended k line e at step none) least = inr (before_line k 20 line least (omega (arith, slice_get_within (steps_in form b) k step.step step.is_step)) at)
-  says _ _ (faults.partner_broken k e m rule step is v) least = inr (inl (record {
+  says _ _ (faults.ended k line e at step owes none) least = inr (before_line k 20 (0 ∷ []) line least (omega (arith, slice_get_within (steps_in form b) k step.step step.is_step)) at)
+  says _ _ (faults.partner_broken k n e m rule step is v) least = inr (inl (record {
     place = k;
     event = e;
     is_event_step = step;
+    earlier = n;
     line = m;
     is_partner = is;
     is_number = refl;
     breaks = inl v;
-    proof_keeps = up_to_partner k 20 (omega arith) least (slice_get_within (steps_in form b) k step.step step.is_step);
+    proof_keeps = up_to_partner k ((n + 1) ∷ 1 ∷ []) least (slice_get_within (steps_in form b) k step.step step.is_step);
   }))
-  says _ _ (faults.pair_rule k m rule f) least = inr (inl (record {
+  says _ _ (faults.pair_rule k n m rule f) least = inr (inl (record {
     place = k;
     event = f.event;
     is_event_step = f.is_event_step;
+    earlier = n;
     line = m;
     is_partner = f.is_partner;
     is_number = refl;
     breaks = inr f;
-    proof_keeps = up_to_partner k (rule_number rule) (pair_rule_number _ _ _ rule f.breaks) least (slice_get_within (steps_in form b) k f.is_event_step.step f.is_event_step.is_step);
+    proof_keeps = up_to_partner k ((n + 1) ∷ rule_number rule ∷ []) least (slice_get_within (steps_in form b) k f.is_event_step.step f.is_event_step.is_step);
   }))
   says _ _ (faults.surplus line whole at) least = inr (inr (record {
     line = line;

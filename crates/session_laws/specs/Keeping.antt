@@ -1,5 +1,5 @@
 -- Proofs whose steps keep all their own rules.
-use Rattle.std.specs.Prelude.{◌≡◌, ℕ, List, [], ◌∷◌, ◌++◌}
+use Rattle.std.specs.Prelude.{◌≡◌, List, [], ◌∷◌, ◌++◌}
 use Rattle.session_rules.specs.declared.Rule.{Rule}
 
 -- no step breaks a rule of its own behind the steps before it

@@ -8,7 +8,7 @@ use Rattle.session_rules.specs.Lines.{Line, lines, end_line}
 use Rattle.session_rules.specs.declared.Event.{Event}
 use Rattle.session_rules.specs.Reading.{header_fault, value_of, icnf_line}
 use Rattle.session_rules.specs.Pair.{events_in}
-use Rattle.session_rules.specs.Verdicts.{rules_of, body, steps_in, events_among, OwnFault, IsEventStep, PairFault, partner, further_rule, KeepsOwnRules}
+use Rattle.session_rules.specs.Verdicts.{rules_of, body, steps_in, events_among, OwnFault, IsEventStep, lines_taken, partners, PairFault, further_rule, KeepsOwnRules}
 
 -- the file of a side
 abbrev pub file_of : Side → List ℕ → List ℕ → List ℕ
@@ -33,22 +33,23 @@ pub record KeepRules (form : Form) (b : List ℕ) (AreThese : ℕ → Line → T
 abbrev pub ProofRefused : Form → List ℕ → ℕ → Rule → Type 0
 ProofRefused form b number rule = (header_fault (rules_of form).name b ≡ Some (number, rule)) ⊎ KeepRules form b (λ k line. line.number < number)
 
--- a line of the interaction breaks this rule as the partner of an event of the proof: it is broken itself, or breaks the rule with
--- the event; up to this event the proof keeps its rules
+-- a line of the interaction breaks this rule as the partner of an event of the proof, behind others of its partners: it is broken
+-- itself, or breaks the rule with the event; up to this event the proof keeps its rules
 pub record PartnerRefused (form : Form) (a b : List ℕ) (number : ℕ) (rule : Rule) : Type 0 where
   pub place : ℕ
   pub event : Event
   pub is_event_step : IsEventStep form (steps_in form b) place event
+  pub earlier : ℕ
   pub line : Line
-  pub is_partner : partner form a (steps_in form b) place ≡ Some line
+  pub is_partner : slice_get (partners form a (steps_in form b) place event) earlier ≡ Some line
   pub is_number : line.number ≡ number
-  pub breaks : (value_of icnf_line line ≡ Err rule) ⊎ PairFault form a (steps_in form b) place line rule
+  pub breaks : (value_of icnf_line line ≡ Err rule) ⊎ PairFault form a (steps_in form b) place earlier line rule
   pub proof_keeps : KeepRules form b (λ k line. k ≤ place)
 
 -- a line of the interaction is left behind the partners of all events, and the whole proof keeps its rules
 pub record FurtherRefused (form : Form) (a b : List ℕ) (number : ℕ) (rule : Rule) : Type 0 where
   pub line : Line
-  pub is_left : slice_get (body a) (length (events_among form (steps_in form b))) ≡ Some line
+  pub is_left : slice_get (body a) (lines_taken (events_among form (steps_in form b)) (body a)) ≡ Some line
   pub is_number : line.number ≡ number
   pub is_rule : rule ≡ further_rule line
   pub all_say : length (steps_in form b) ≡ length (body b)

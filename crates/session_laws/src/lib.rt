@@ -20,7 +20,7 @@ ghost use Rattle.session_rules.specs.declared.Side.TheVariants.{Interaction, Pro
 ghost use Rattle.session_rules.specs.declared.Verdict.TheVariants.{Accepted, Refused};
 ghost use Rattle.session_rules.specs.Pair.{verdict, refusal, Certified, events_in};
 ghost use Rattle.session_rules.specs.Keys.{Key};
-ghost use Rattle.session_rules.specs.Verdicts.{steps_in, events_among, IsFault};
+ghost use Rattle.session_rules.specs.Verdicts.{body, steps_in, events_among, lines_taken, IsFault};
 ghost use Rattle.session_laws.specs.Refusals.{file_of, IsLineOf, ProofRefused, InteractionRefused, IsWhole};
 
 /// Copies of clauses are counted by their sets.
@@ -54,13 +54,17 @@ pub fn cores_contradict()
         → IsTrue (is_part u (assumed (id_events_of ps))) × Contradicts (inputs (id_events_of ps)) u }
 {}
 
-/// An accepted interaction has a model at each satisfiable query and a contradicted core at each unsatisfiable one, each of its
-/// lines says an event and is held against the proof, and the verdict's number is that of its queries.
+/// At each satisfiable answer of an accepted interaction the proof has a model for the same query, and one assignment satisfies the
+/// inputs, the assumptions, this model and all that the interaction tells of it. At each unsatisfiable answer it has a core of
+/// assumptions that the inputs contradict; a core line of the interaction holds that core and is contradicted too, and failed
+/// assumptions are in it. Each line of the interaction says an event and is a partner of an event of the proof, and the verdict's
+/// number is that of its queries.
 pub fn acceptance_certifies()
-    ensures certified { (form : Form) (a b : List ℕ) (n : ℕ) → verdict form a b ≡ Accepted n → Certified (events_in a) }
+    ensures certified { (form : Form) (a b : List ℕ) (n : ℕ) → verdict form a b ≡ Accepted n
+        → Certified (events_in a) (events_among form (steps_in form b)) }
     ensures whole { (form : Form) (a b : List ℕ) (n : ℕ) → verdict form a b ≡ Accepted n → IsWhole a }
     ensures partners { (form : Form) (a b : List ℕ) (n : ℕ) → verdict form a b ≡ Accepted n
-        → length (events_in a) ≡ length (events_among form (steps_in form b)) }
+        → lines_taken (events_among form (steps_in form b)) (body a) ≡ length (body a) }
     ensures queries { (form : Form) (a b : List ℕ) (n : ℕ) → verdict form a b ≡ Accepted n
         → n ≡ length (filter (λ e. is_some (query_of e)) (events_in a)) }
 {}

@@ -4,7 +4,6 @@ use Rattle.std.proofs.lemmas.Bool.{cases_Bool, and_parts, and_from}
 use Rattle.std.specs.Cmp.Lexicographic.{pointwise, other_text}
 use Rattle.session_rules.specs.declared.Rule.{Rule}
 use Rattle.session_rules.specs.declared.Rule.TheVariants as rules
-use Rattle.session_rules.specs.declared.Event.{Event}
 use Rattle.session_rules.specs.declared.Event.TheVariants as events
 use Rattle.session_rules.specs.declared.Step.TheVariants as steps
 use Rattle.session_rules.specs.declared.LStep.TheVariants as lsteps
@@ -31,6 +30,8 @@ event_case letters.Lemma = no_line (λ ws. refl)
 event_case letters.Deletion = no_line (λ ws. refl)
 event_case letters.Weakening = no_line (λ ws. refl)
 event_case letters.Restoring = no_line (λ ws. refl)
+event_case letters.Values = line (statusless (event_at letters.Values) (λ e. cc e) (literals_tail events.Values))
+event_case letters.Failed = line (statusless (event_at letters.Failed) (λ e. cc e) (literals_tail events.Failed))
 event_case letters.NoLetter = no_line (λ ws. refl)
 
 script_case : (c : Letter) → LetterCase script_at c
@@ -43,6 +44,8 @@ script_case letters.Lemma = no_line (λ ws. refl)
 script_case letters.Deletion = no_line (λ ws. refl)
 script_case letters.Weakening = no_line (λ ws. refl)
 script_case letters.Restoring = no_line (λ ws. refl)
+script_case letters.Values = no_line (λ ws. refl)
+script_case letters.Failed = no_line (λ ws. refl)
 script_case letters.NoLetter = no_line (λ ws. refl)
 
 step_case : (c : Letter) → LetterCase step_at c
@@ -55,6 +58,8 @@ step_case letters.Lemma = line (statusless (step_at letters.Lemma) (λ e. cc e) 
 step_case letters.Deletion = line (statusless (step_at letters.Deletion) (λ e. cc e) (literals_tail steps.Delete))
 step_case letters.Weakening = line (statusless (step_at letters.Weakening) (λ e. cc e) (literals_tail steps.Weaken))
 step_case letters.Restoring = line (statusless (step_at letters.Restoring) (λ e. cc e) (literals_tail steps.Restore))
+step_case letters.Values = no_line (λ ws. refl)
+step_case letters.Failed = no_line (λ ws. refl)
 step_case letters.NoLetter = no_line (λ ws. refl)
 
 id_input_tail : IsTail ⊥ (id_step_at letters.Input)
@@ -77,6 +82,8 @@ id_step_case letters.Lemma = line (statusless (id_step_at letters.Lemma) (λ e. 
 id_step_case letters.Deletion = line (statusless (id_step_at letters.Deletion) (λ e. cc e) (ids_tail lsteps.Delete))
 id_step_case letters.Weakening = line (statusless (id_step_at letters.Weakening) (λ e. cc e) (ids_tail lsteps.Weaken))
 id_step_case letters.Restoring = line (statusless (id_step_at letters.Restoring) (λ e. cc e) (ids_tail lsteps.Restore))
+id_step_case letters.Values = no_line (λ ws. refl)
+id_step_case letters.Failed = no_line (λ ws. refl)
 id_step_case letters.NoLetter = no_line (λ ws. refl)
 
 -- ---- The four forms

@@ -1,5 +1,5 @@
 -- The rule that a line breaks, cut or not, is the one that its first wrong word, its end or the cut tells.
-use Rattle.std.proofs.Common.{◌≡◌, ℕ, List, [], ◌∷◌, None, Some, Result, Ok, Err, refl, sym, ◌∙◌, ap, subst, ◌↔◌, inl, inr, true, false}
+use Rattle.std.proofs.Common.{◌≡◌, ℕ, List, [], None, Some, Result, Ok, Err, refl, sym, ◌∙◌, ap, subst, ◌↔◌, inl, inr, true, false}
 use Rattle.std.proofs.lemmas.Bool.{cases_Bool}
 use Rattle.session_rules.specs.declared.Rule.{Rule}
 use Rattle.session_rules.specs.declared.Rule.TheVariants as rules

@@ -12,10 +12,10 @@ use Rattle.session_rules.specs.Lines.{lines, lines_within, all_lines, numbered, 
 use Rattle.session_rules.specs.Logic.{closes, propagated, propagated_times, hints_fail, hints_fail_from}
 use Rattle.session_rules.specs.Reading.{icnf_line, idrup_line, lidrup_line, header_line, header_fault, literal_list, id_list, own_id, status_word, same_word, values_of}
 use Rattle.session_rules.specs.Own.{own_faults, own_id_faults}
-use Rattle.session_rules.specs.Pair.{pair_faults, faults_from, pair_refusals, verdict_by, verdict, verdict_within}
+use Rattle.session_rules.specs.Pair.{pair_faults, run_length, faults_from, pair_refusals, verdict_by, verdict, verdict_within}
 
 unfoldable pub row : Form → String → String → Verdict
-unfolding verdict verdict_by pair_refusals faults_from pair_faults own_faults own_id_faults closes propagated propagated_times hints_fail hints_fail_from values_of icnf_line idrup_line lidrup_line literal_list id_list own_id status_word same_word literal_word magnitude numeral id_word header_line header_fault lines lines_within all_lines numbered words ends_in_word end_line end_line_within
+unfolding verdict verdict_by pair_refusals faults_from run_length pair_faults own_faults own_id_faults closes propagated propagated_times hints_fail hints_fail_from values_of icnf_line idrup_line lidrup_line literal_list id_list own_id status_word same_word literal_word magnitude numeral id_word header_line header_fault lines lines_within all_lines numbered words ends_in_word end_line end_line_within
 row form a b = verdict form (codes a) (codes b)
 
 -- accepted 1 queries
@@ -335,10 +335,107 @@ pub model_input_with_ids : row Lidrup "p icnf\ni 1 2 0\nq 0\ns SATISFIABLE\nm -1
 unfolding row
 model_input_with_ids = refl
 
+-- ---- Values of a model and failed assumptions in place of the whole model and core
+
+-- accepted 1 queries
+pub values : row Idrup "p icnf\ni 1 2 0\nq -1 0\ns SATISFIABLE\nv 2 0\nv -1 0\n" "p idrup\ni 1 2 0\nq -1 0\ns SATISFIABLE\nm -1 2 0\n" ≡ Accepted 1
+unfolding row
+values = refl
+
+-- accepted 1 queries: an interaction may say nothing of a model
+pub no_model_told : row Idrup "p icnf\ni 1 2 0\nq -1 0\ns SATISFIABLE\n" "p idrup\ni 1 2 0\nq -1 0\ns SATISFIABLE\nm -1 2 0\n" ≡ Accepted 1
+unfolding row
+no_model_told = refl
+
+-- refused interaction 5 ModelPart 3
+pub value_not_in_model : row Idrup "p icnf\ni 1 2 0\nq -1 0\ns SATISFIABLE\nv 2 3 0\n" "p idrup\ni 1 2 0\nq -1 0\ns SATISFIABLE\nm -1 2 0\n" ≡ Refused Interaction 5 (rules.ModelPart 4)
+unfolding row
+value_not_in_model = refl
+
+-- refused interaction 6 ModelPart 1: each line of a run is held against the model
+pub second_line_not_in_model : row Idrup "p icnf\ni 1 2 0\nq -1 0\ns SATISFIABLE\nv 2 0\nv 1 0\n" "p idrup\ni 1 2 0\nq -1 0\ns SATISFIABLE\nm -1 2 0\n" ≡ Refused Interaction 6 (rules.ModelPart 0)
+unfolding row
+second_line_not_in_model = refl
+
+-- refused interaction 6 Surplus
+pub model_behind_values : row Idrup "p icnf\ni 1 2 0\nq -1 0\ns SATISFIABLE\nv 2 0\nm -1 2 0\n" "p idrup\ni 1 2 0\nq -1 0\ns SATISFIABLE\nm -1 2 0\n" ≡ Refused Interaction 6 rules.Surplus
+unfolding row
+model_behind_values = refl
+
+-- refused interaction 6 Surplus
+pub values_behind_model : row Idrup "p icnf\ni 1 2 0\nq -1 0\ns SATISFIABLE\nm -1 2 0\nv 2 0\n" "p idrup\ni 1 2 0\nq -1 0\ns SATISFIABLE\nm -1 2 0\n" ≡ Refused Interaction 6 rules.Surplus
+unfolding row
+values_behind_model = refl
+
+-- accepted 1 queries: a line without a value
+pub no_values : row Idrup "p icnf\ni 1 2 0\nq -1 0\ns SATISFIABLE\nv 0\n" "p idrup\ni 1 2 0\nq -1 0\ns SATISFIABLE\nm -1 2 0\n" ≡ Accepted 1
+unfolding row
+no_values = refl
+
+-- refused interaction 6 Number: the second line of a run is broken
+pub broken_value : row Idrup "p icnf\ni 1 2 0\nq -1 0\ns SATISFIABLE\nv 2 0\nv x 0\n" "p idrup\ni 1 2 0\nq -1 0\ns SATISFIABLE\nm -1 2 0\n" ≡ Refused Interaction 6 rules.Number
+unfolding row
+broken_value = refl
+
+-- refused proof 4 Ended
+pub ended_before_status : row Idrup "p icnf\ni 1 2 0\nq -1 0\n" "p idrup\ni 1 2 0\nq -1 0\ns SATISFIABLE\nm -1 2 0\n" ≡ Refused Proof 4 rules.Ended
+unfolding row
+ended_before_status = refl
+
+-- accepted 1 queries
+pub failed : row Idrup "p icnf\ni 1 0\nq -1 0\ns UNSATISFIABLE\nf -1 0\n" "p idrup\ni 1 0\nq -1 0\ns UNSATISFIABLE\nu -1 0\n" ≡ Accepted 1
+unfolding row
+failed = refl
+
+-- accepted 1 queries: a literal may be told again
+pub failed_again : row Idrup "p icnf\ni 1 0\nq -1 0\ns UNSATISFIABLE\nf -1 0\nf -1 0\n" "p idrup\ni 1 0\nq -1 0\ns UNSATISFIABLE\nu -1 0\n" ≡ Accepted 1
+unfolding row
+failed_again = refl
+
+-- accepted 1 queries
+pub no_core_told : row Idrup "p icnf\ni 1 0\nq -1 0\ns UNSATISFIABLE\n" "p idrup\ni 1 0\nq -1 0\ns UNSATISFIABLE\nu -1 0\n" ≡ Accepted 1
+unfolding row
+no_core_told = refl
+
+-- refused interaction 5 FailedPart -2
+pub failed_not_in_core : row Idrup "p icnf\ni 1 0\nq -1 0\ns UNSATISFIABLE\nf -1 -2 0\n" "p idrup\ni 1 0\nq -1 0\ns UNSATISFIABLE\nu -1 0\n" ≡ Refused Interaction 5 (rules.FailedPart 3)
+unfolding row
+failed_not_in_core = refl
+
+-- refused interaction 6 Surplus
+pub failed_behind_core : row Idrup "p icnf\ni 1 0\nq -1 0\ns UNSATISFIABLE\nu -1 0\nf -1 0\n" "p idrup\ni 1 0\nq -1 0\ns UNSATISFIABLE\nu -1 0\n" ≡ Refused Interaction 6 rules.Surplus
+unfolding row
+failed_behind_core = refl
+
+-- refused interaction 5 Surplus: no partner of a core, and the proof has ended
+pub values_behind_unsatisfiable : row Idrup "p icnf\ni 1 0\nq -1 0\ns UNSATISFIABLE\nv 1 0\n" "p idrup\ni 1 0\nq -1 0\ns UNSATISFIABLE\nu -1 0\n" ≡ Refused Interaction 5 rules.Surplus
+unfolding row
+values_behind_unsatisfiable = refl
+
+-- refused interaction 5 Kind: no partner of the model, but held against the next query
+pub failed_behind_satisfiable : row Idrup "p icnf\ni 1 2 0\nq -1 0\ns SATISFIABLE\nf -1 0\n" "p idrup\ni 1 2 0\nq -1 0\ns SATISFIABLE\nm -1 2 0\nq 0\ns UNKNOWN\n" ≡ Refused Interaction 5 rules.Kind
+unfolding row
+failed_behind_satisfiable = refl
+
+-- accepted 2 queries: the next event begins behind the run
+pub two_queries_with_parts : row Idrup "p icnf\ni 1 2 0\nq -1 0\ns SATISFIABLE\nv 2 0\nv -1 0\ni -2 0\nq -1 0\ns UNSATISFIABLE\nf -1 0\n" "p idrup\ni 1 2 0\nq -1 0\ns SATISFIABLE\nm -1 2 0\ni -2 0\nq -1 0\ns UNSATISFIABLE\nu -1 0\n" ≡ Accepted 2
+unfolding row
+two_queries_with_parts = refl
+
+-- refused proof 5 Letter: parts are lines of the interaction alone
+pub values_in_proof : row Idrup "p icnf\ni 1 2 0\nq -1 0\ns SATISFIABLE\nv 2 0\n" "p idrup\ni 1 2 0\nq -1 0\ns SATISFIABLE\nv 2 0\n" ≡ Refused Proof 5 rules.Letter
+unfolding row
+values_in_proof = refl
+
+-- accepted 2 queries
+pub parts_with_ids : row Lidrup "p icnf\ni 1 2 0\nq -1 0\ns SATISFIABLE\nv 2 0\nv -1 0\ni -2 0\nq -1 0\ns UNSATISFIABLE\nf -1 0\n" "p lidrup\ni 1 1 2 0\nq -1 0\ns SATISFIABLE\nm -1 2 0\ni 2 -2 0\nq -1 0\ns UNSATISFIABLE\nu -1 0 1 2 0\n" ≡ Accepted 2
+unfolding row
+parts_with_ids = refl
+
 -- ---- Where no more than some bytes are read
 
 unfoldable pub row_within : ℕ → String → String → Verdict
-unfolding verdict_within faults_from pair_faults own_faults closes propagated propagated_times values_of icnf_line idrup_line literal_list status_word same_word literal_word magnitude numeral header_line lines_within all_lines numbered words ends_in_word end_line_within
+unfolding verdict_within faults_from run_length pair_faults own_faults closes propagated propagated_times values_of icnf_line idrup_line literal_list status_word same_word literal_word magnitude numeral header_line lines_within all_lines numbered words ends_in_word end_line_within
 row_within bound a b = verdict_within bound Idrup (codes a) (codes b)
 
 -- refused proof 2 Length: the 14th byte of the proof isn't read
@@ -360,3 +457,8 @@ wrong_before_bound = refl
 pub interaction_too_long : row_within 16 "p icnf\ni 1 0\nc comment\n" "p idrup\ni 1 0\n" ≡ Refused Interaction 3 rules.Length
 unfolding row_within
 interaction_too_long = refl
+
+-- refused interaction 5 Length: a line behind values whose first word goes on behind the bound counts as one of them
+pub values_cut : row_within 32 "p icnf\nq 0\ns SATISFIABLE\nv 1 0\nv 1 0\n" "p idrup\nq 0\ns SATISFIABLE\nm 1 0\n" ≡ Refused Interaction 5 rules.Length
+unfolding row_within
+values_cut = refl

@@ -1,5 +1,6 @@
--- The rules that a step breaks by itself, and those that an event and its partner break, are listed in the order of their numbers.
-use Rattle.std.proofs.Common.{◌≡◌, ℕ, ◌<◌, ◌≤◌, Bool, true, false, not, List, [], ◌++◌, Contains, Option, Some, None, refl, subst, arith, append-nil}
+-- The rules that a step breaks by itself, and those that an event and one of its partners break, are listed in the order of their
+-- numbers.
+use Rattle.std.proofs.Common.{◌≡◌, ℕ, ◌<◌, ◌≤◌, ◌⊎◌, Bool, true, false, not, List, [], ◌++◌, Contains, Option, Some, None, refl, subst, inl, inr, arith, append-nil}
 use Rattle.std.specs.List.{list_any, position_from}
 use Rattle.session_rules.specs.declared.Form.{Form}
 use Rattle.session_rules.specs.declared.Form.TheVariants.{Idrup, Lidrup}
@@ -62,6 +63,8 @@ own_ascends-without_ids ps (steps.Event (events.Model m)) = raised 17 _ (ascends
 own_ascends-without_ids ps (steps.Event (events.Core u)) = ascends_append rule_number 8 18 19 _ _
     (ascends_append rule_number 8 9 18 _ _ (order_ascends (events_of ps) (events.Core u)) (ascends_weaken rule_number 9 17 18 _ (omega arith) (core_ascends (events_of ps) u)))
     (ascends_unless _ rules.CoreOpen 18 19 (omega arith) (omega arith))
+own_ascends-without_ids ps (steps.Event (events.Values c)) = raised 9 _ (order_ascends (events_of ps) (events.Values c)) (omega arith)
+own_ascends-without_ids ps (steps.Event (events.Failed c)) = raised 9 _ (order_ascends (events_of ps) (events.Failed c)) (omega arith)
 own_ascends-without_ids ps (steps.Lemma c) = ascends_unless _ rules.Lemma 8 19 (omega arith) (omega arith)
 own_ascends-without_ids ps (steps.Delete c) = ascends_unless _ (rules.NotActive 1) 8 19 (omega arith) (omega arith)
 own_ascends-without_ids ps (steps.Weaken c) = ascends_unless _ (rules.NotActive 1) 8 19 (omega arith) (omega arith)
@@ -85,24 +88,48 @@ pub own_ascends : (form : Form) (ps : List (StepOf form)) (p : StepOf form) → 
 own_ascends Idrup ps p = own_ascends-without_ids ps p
 own_ascends Lidrup ps p = own_ascends-with_ids ps p
 
-pub pair_ascends : (qs : List ℕ) (e f : Event) → Ascends rule_number 20 (pair_faults qs e f) 26
+-- the rules of one partner: those with numbers up to 26, or of a part of a core the one with number 29
+abbrev PairRange : List Rule → Type 0
+PairRange rs = Ascends rule_number 20 rs 26 ⊎ Ascends rule_number 28 rs 29
+
+pair_range : (qs : List ℕ) (e f : Event) → PairRange (pair_faults qs e f)
 unfolding pair_faults Ascends
-pair_ascends qs (events.Input c) (events.Input d) = ascends_unless _ rules.Content 20 26 (omega arith) (omega arith)
-pair_ascends qs (events.Query c) (events.Query d) = ascends_unless _ rules.Content 20 26 (omega arith) (omega arith)
-pair_ascends qs (events.Status s) (events.Status t) = ascends_unless _ rules.Status 20 26 (omega arith) (omega arith)
-pair_ascends qs (events.Model m) (events.Model n) = ascends_at rules.ModelPart _ 20 24 26 (λ x. refl) (omega arith) (omega arith)
-pair_ascends qs (events.Core u) (events.Core v) = two_ascend rules.CorePart (first_missing u v) rules.CoreClaim (first_missing v qs) 20 25 26 26 (λ x. refl) (λ x. refl) (omega arith) (omega arith) (omega arith)
-pair_ascends qs _ _ = (omega arith, omega arith)
+pair_range qs (events.Input c) (events.Input d) = inl (ascends_unless _ rules.Content 20 26 (omega arith) (omega arith))
+pair_range qs (events.Query c) (events.Query d) = inl (ascends_unless _ rules.Content 20 26 (omega arith) (omega arith))
+pair_range qs (events.Status s) (events.Status t) = inl (ascends_unless _ rules.Status 20 26 (omega arith) (omega arith))
+pair_range qs (events.Model m) (events.Model n) = inl (ascends_at rules.ModelPart _ 20 24 26 (λ x. refl) (omega arith) (omega arith))
+pair_range qs (events.Model m) (events.Values n) = inl (ascends_at rules.ModelPart _ 20 24 26 (λ x. refl) (omega arith) (omega arith))
+pair_range qs (events.Core u) (events.Core v) = inl (two_ascend rules.CorePart (first_missing u v) rules.CoreClaim (first_missing v qs) 20 25 26 26 (λ x. refl) (λ x. refl) (omega arith) (omega arith) (omega arith))
+pair_range qs (events.Core u) (events.Failed v) = inr (ascends_at rules.FailedPart _ 28 29 29 (λ x. refl) (omega arith) (omega arith))
+pair_range qs _ _ = inl (omega arith, omega arith)
+
+up_to_last : (rs : List Rule) → Ascends rule_number 20 rs 26 → Ascends rule_number 20 rs 29
+unfolding Ascends
+up_to_last rs h = subst (λ zs. Ascends rule_number 20 zs 29) (append-nil rs) (ascends_append rule_number 20 26 29 rs [] h (omega arith))
+
+pub pair_ascends : (qs : List ℕ) (e f : Event) → Ascends rule_number 20 (pair_faults qs e f) 29
+pair_ascends qs e f = elim (pair_range qs e f) [
+  | inl h ↦ up_to_last _ h
+  | inr h ↦ ascends_weaken rule_number 20 28 29 _ (omega arith) h
+]
 
 pub own_rule_number : (form : Form) (ps : List (StepOf form)) (p : StepOf form) (rule : Rule) → Contains ((rules_of form).faults ps p) rule → rule_number rule ≤ 19
 own_rule_number form ps p rule m = below_high rule_number 8 19 _ rule (own_ascends form ps p) m
 
 pub pair_rule_number : (qs : List ℕ) (e f : Event) (rule : Rule) → Contains (pair_faults qs e f) rule → 19 < rule_number rule
-pair_rule_number qs e f rule m = omega (arith, above_low rule_number 20 26 _ rule (pair_ascends qs e f) m)
+pair_rule_number qs e f rule m = omega (arith, above_low rule_number 20 29 _ rule (pair_ascends qs e f) m)
 
--- the numbers of a step's own rules, and of those that it and its partner break
+-- the numbers of a step's own rules, and of those that it and one of its partners break
 pub own_numbers : (form : Form) (ps : List (StepOf form)) (k : ℕ) (rule : Rule) → OwnFault form ps k rule → (9 ≤ rule_number rule) × (rule_number rule ≤ 19)
 own_numbers form ps k rule f = (omega (arith, above_low rule_number 8 19 _ rule (own_ascends form _ f.step) f.breaks), own_rule_number form _ f.step rule f.breaks)
 
-pub pair_numbers : (form : Form) (a : List ℕ) (ps : List (StepOf form)) (k : ℕ) (line : Line) (rule : Rule) → PairFault form a ps k line rule → (21 ≤ rule_number rule) × (rule_number rule ≤ 26)
-pair_numbers form a ps k line rule f = (omega (arith, above_low rule_number 20 26 _ rule (pair_ascends _ f.event f.said) f.breaks), below_high rule_number 20 26 _ rule (pair_ascends _ f.event f.said) f.breaks)
+pair_rule_range : (qs : List ℕ) (e f : Event) (rule : Rule) → Contains (pair_faults qs e f) rule → (21 ≤ rule_number rule) × ((rule_number rule ≤ 26) ⊎ (rule_number rule ≡ 29))
+pair_rule_range qs e f rule m = elim (pair_range qs e f) [
+  | inl h ↦ (omega (arith, above_low rule_number 20 26 _ rule h m), inl (below_high rule_number 20 26 _ rule h m))
+  | inr h ↦ let low = above_low rule_number 28 29 _ rule h m in let high = below_high rule_number 28 29 _ rule h m in
+      (omega (arith, low), inr (omega (arith, low, high)))
+]
+
+pub pair_numbers : (form : Form) (a : List ℕ) (ps : List (StepOf form)) (k n : ℕ) (line : Line) (rule : Rule) → PairFault form a ps k n line rule
+    → (21 ≤ rule_number rule) × ((rule_number rule ≤ 26) ⊎ (rule_number rule ≡ 29))
+pair_numbers form a ps k n line rule f = pair_rule_range _ f.event f.said rule f.breaks

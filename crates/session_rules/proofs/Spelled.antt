@@ -1,5 +1,5 @@
 -- What the words of a value say is the value, and the lines of a text are the words of its values.
-use Rattle.std.proofs.Common.{◌≡◌, ℕ, zero, suc, ◌+◌, ◌^◌, ◌<◌, ◌≤◌, Bool, true, false, not, ◌&&◌, nat_eq, nat_lt, List, [], ◌∷◌, ◌++◌, length, map, filter, flat_map, All, drop, decimal, Option, None, Result, Ok, refl, sym, ap, subst, arith, append-nil, append_assoc, suc-le-suc, le_of_suc-le-suc, zero-lt-suc, take, take_all, le-ltb, inl, inr}
+use Rattle.std.proofs.Common.{◌≡◌, ℕ, zero, suc, ◌+◌, ◌^◌, ◌<◌, ◌≤◌, Bool, true, false, not, ◌&&◌, nat_eq, List, [], ◌∷◌, ◌++◌, length, map, filter, flat_map, All, drop, decimal, None, Result, Ok, refl, sym, ap, subst, arith, append-nil, append_assoc, suc-le-suc, le_of_suc-le-suc, zero-lt-suc, take, take_all, le-ltb, inl, inr}
 use Rattle.std.proofs.Common.{◌∙◌, codes}
 use Rattle.std.specs.List.{list_all, slice_split, onto_first}
 use Rattle.std.proofs.lemmas.List.Splits.{slice_split-cons_yes, slice_split-cons_no}
@@ -7,7 +7,7 @@ use Rattle.std.proofs.lemmas.List.Folds.{list_all-append}
 use Rattle.std.proofs.lemmas.Bool.{and_parts, and_from, cases_Bool, not-true}
 use Rattle.std.specs.Str.{all_ascii_digits}
 use Rattle.std.specs.Char.{is_ascii_digit}
-use Rattle.std.proofs.Common.{leb-true, ne_eqb, lt-ltb}
+use Rattle.std.proofs.Common.{leb-true, ne_eqb}
 use Rattle.lits.specs.Literal.{IsFileLiteral, positive, var}
 use Rattle.lits.specs.Word.{literal_word, id_word, literal_text}
 use Rattle.lits.proofs.Words.{literal_word-literal_text, id_word-decimal, IsWord-decimal}
@@ -21,7 +21,7 @@ use Rattle.session_rules.specs.declared.LStep.{LStep}
 use Rattle.session_rules.specs.declared.LStep.TheVariants as lsteps
 use Rattle.session_rules.specs.Lines.{Line, lines, most_bytes, end_line, lines_within, all_lines, numbered, line_of, counts, words, is_nil, is_blank, is_line_feed, has_content}
 use Rattle.session_rules.specs.Reading.{Fault, literal_list, id_list, own_id, status_word, same_word, of_literals, of_ids, of_status, icnf_line, script_line, idrup_line, lidrup_line, header_line, header_fault, first_fault, with_number, rule_or_none, of_whole_line, values_of, steps_of}
-use Rattle.session_rules.specs.Spelling.{literal_words, id_words, status_text, event_words, step_words, id_step_words, header_words, line_text, text, AreLiterals, AreIds, IsId, IsEvent, IsScriptLine, IsStep, IsIdStep, numbered_values}
+use Rattle.session_rules.specs.Spelling.{literal_words, id_words, status_text, event_words, step_words, id_step_words, header_words, line_text, text, AreLiterals, AreIds, IsId, IsEvent, IsProofEvent, IsScriptLine, IsStep, IsIdStep, numbered_values}
 use Rattle.std.proofs.lemmas.List.{length-map}
 use Rattle.session_rules.specs.Verdicts.{IsReadAs}
 
@@ -71,6 +71,8 @@ icnf_line-event_words (events.Query ls) h = of_literals-literal_words events.Que
 icnf_line-event_words (events.Status s) h = of_status-status_text events.Status s
 icnf_line-event_words (events.Model ls) h = of_literals-literal_words events.Model ls h
 icnf_line-event_words (events.Core ls) h = of_literals-literal_words events.Core ls h
+icnf_line-event_words (events.Values ls) h = of_literals-literal_words events.Values ls h
+icnf_line-event_words (events.Failed ls) h = of_literals-literal_words events.Failed ls h
 
 -- the words of a script's line are read as it
 pub script_line-event_words : (e : Event) → IsScriptLine e → script_line (event_words e) ≡ Ok e
@@ -80,6 +82,8 @@ script_line-event_words (events.Query ls) h = of_literals-literal_words events.Q
 script_line-event_words (events.Status s) h = absurd h
 script_line-event_words (events.Model ls) h = absurd h
 script_line-event_words (events.Core ls) h = absurd h
+script_line-event_words (events.Values ls) h = absurd h
+script_line-event_words (events.Failed ls) h = absurd h
 
 -- the words of a step are read as it
 pub idrup_line-step_words : (p : Step) → IsStep p → idrup_line (step_words p) ≡ Ok p
@@ -89,6 +93,8 @@ idrup_line-step_words (steps.Event (events.Query ls)) h = rw (of_literals-litera
 idrup_line-step_words (steps.Event (events.Status s)) h = rw (of_status-status_text events.Status s) refl
 idrup_line-step_words (steps.Event (events.Model ls)) h = rw (of_literals-literal_words events.Model ls h) refl
 idrup_line-step_words (steps.Event (events.Core ls)) h = rw (of_literals-literal_words events.Core ls h) refl
+idrup_line-step_words (steps.Event (events.Values ls)) h = absurd h
+idrup_line-step_words (steps.Event (events.Failed ls)) h = absurd h
 idrup_line-step_words (steps.Lemma ls) h = of_literals-literal_words steps.Lemma ls h
 idrup_line-step_words (steps.Delete ls) h = of_literals-literal_words steps.Delete ls h
 idrup_line-step_words (steps.Weaken ls) h = of_literals-literal_words steps.Weaken ls h
@@ -264,6 +270,8 @@ event_plain (events.Query ls) h = record { content = refl; each = literal_words_
 event_plain (events.Status s) h = record { content = refl; each = status_plain s }
 event_plain (events.Model ls) h = record { content = refl; each = literal_words_plain ls h }
 event_plain (events.Core ls) h = record { content = refl; each = literal_words_plain ls h }
+event_plain (events.Values ls) h = record { content = refl; each = literal_words_plain ls h }
+event_plain (events.Failed ls) h = record { content = refl; each = literal_words_plain ls h }
 
 script_plain : (e : Event) → IsScriptLine e → IsPlainLine (event_words e)
 script_plain (events.Input ls) h = record { content = refl; each = literal_words_plain ls h }
@@ -271,9 +279,21 @@ script_plain (events.Query ls) h = record { content = refl; each = literal_words
 script_plain (events.Status s) h = absurd h
 script_plain (events.Model ls) h = absurd h
 script_plain (events.Core ls) h = absurd h
+script_plain (events.Values ls) h = absurd h
+script_plain (events.Failed ls) h = absurd h
+
+-- an event of a proof is one of an interaction
+pub proof_event : (e : Event) → IsProofEvent e → IsEvent e
+proof_event (events.Input ls) h = h
+proof_event (events.Query ls) h = h
+proof_event (events.Status s) h = h
+proof_event (events.Model ls) h = h
+proof_event (events.Core ls) h = h
+proof_event (events.Values ls) h = absurd h
+proof_event (events.Failed ls) h = absurd h
 
 step_plain : (p : Step) → IsStep p → IsPlainLine (step_words p)
-step_plain (steps.Event e) h = event_plain e h
+step_plain (steps.Event e) h = event_plain e (proof_event e h)
 step_plain (steps.Lemma ls) h = record { content = refl; each = literal_words_plain ls h }
 step_plain (steps.Delete ls) h = record { content = refl; each = literal_words_plain ls h }
 step_plain (steps.Weaken ls) h = record { content = refl; each = literal_words_plain ls h }

@@ -1,5 +1,5 @@
 -- What the words of a line are read as has these words as its spelling.
-use Rattle.std.proofs.Common.{◌≡◌, ℕ, ◌+◌, ◌⊎◌, true, nat_eq, List, [], ◌∷◌, ◌++◌, length, take, take_all, decimal, Result, Ok, Err, codes, refl, sym, ◌∙◌, ap, subst, inl, inr, arith, append-nil, eqb-true}
+use Rattle.std.proofs.Common.{◌≡◌, ℕ, ◌⊎◌, true, nat_eq, List, [], ◌∷◌, ◌++◌, length, take, take_all, decimal, Result, Ok, Err, codes, refl, sym, ◌∙◌, ap, subst, inl, inr, arith, append-nil, eqb-true}
 use Rattle.std.specs.List.{starts_with}
 use Rattle.std.specs.Cmp.Lexicographic.{pointwise, same_text}
 use Rattle.std.proofs.lemmas.Bool.{and_parts, cases_Bool}
@@ -23,7 +23,7 @@ use Rattle.session_rules.specs.declared.Rule.TheVariants as rules
 use Rattle.session_rules.specs.declared.Letter.{Letter}
 use Rattle.session_rules.specs.declared.Letter.TheVariants as letters
 use Rattle.session_rules.specs.Reading.{Fault, wrong, ◌>>=◌, Part, whole, literals_after, literal_list, ids_after, id_list, id_or_fault, own_id, status_word, same_word, of_literals, of_ids, of_status, letter_of, letter_of_byte, event_at, script_at, step_at, id_step_at, by_letter, icnf_line, script_line, idrup_line, lidrup_line}
-use Rattle.session_rules.specs.Spelling.{literal_words, id_words, status_text, event_words, step_words, id_step_words, AreLiterals, AreIds, IsId, IsEvent, IsScriptLine, IsStep, IsIdStep, Spells}
+use Rattle.session_rules.specs.Spelling.{literal_words, id_words, status_text, event_words, step_words, id_step_words, AreLiterals, AreIds, IsId, IsEvent, IsProofEvent, IsScriptLine, IsStep, IsIdStep, Spells}
 use Rattle.session_rules.proofs.Parts.{ok_same}
 use Rattle.session_rules.proofs.Spelled.{All-cons}
 
@@ -151,6 +151,8 @@ letter_text letters.Lemma = codes "l"
 letter_text letters.Deletion = codes "d"
 letter_text letters.Weakening = codes "w"
 letter_text letters.Restoring = codes "r"
+letter_text letters.Values = codes "v"
+letter_text letters.Failed = codes "f"
 letter_text letters.NoLetter = []
 
 byte_back : (b : ℕ) → (letter_of_byte b ≡ letters.NoLetter) ⊎ (b ∷ [] ≡ letter_text (letter_of_byte b))
@@ -173,7 +175,13 @@ byte_back b = elim (cases_Bool (nat_eq b 105)) [
                 | inl e7 ↦ rw (e0, e1, e2, e3, e4, e5, e6, e7) (inr (ap (λ a. a ∷ []) (eqb-true b 119 e7)))
                 | inr e7 ↦ elim (cases_Bool (nat_eq b 114)) [
                   | inl e8 ↦ rw (e0, e1, e2, e3, e4, e5, e6, e7, e8) (inr (ap (λ a. a ∷ []) (eqb-true b 114 e8)))
-                  | inr e8 ↦ rw (e0, e1, e2, e3, e4, e5, e6, e7, e8) (inl refl)
+                  | inr e8 ↦ elim (cases_Bool (nat_eq b 118)) [
+                    | inl e9 ↦ rw (e0, e1, e2, e3, e4, e5, e6, e7, e8, e9) (inr (ap (λ a. a ∷ []) (eqb-true b 118 e9)))
+                    | inr e9 ↦ elim (cases_Bool (nat_eq b 102)) [
+                      | inl e10 ↦ rw (e0, e1, e2, e3, e4, e5, e6, e7, e8, e9, e10) (inr (ap (λ a. a ∷ []) (eqb-true b 102 e10)))
+                      | inr e10 ↦ rw (e0, e1, e2, e3, e4, e5, e6, e7, e8, e9, e10) (inl refl)
+                    ]
+                  ]
                 ]
               ]
             ]
@@ -228,6 +236,8 @@ event_sound letters.Query ws x e = literals_line IsEvent event_words (codes "q")
 event_sound letters.Status ws x e = status_line IsEvent event_words (codes "s") events.Status (λ s. (tt, refl)) ws x e
 event_sound letters.Model ws x e = literals_line IsEvent event_words (codes "m") events.Model (λ ls h. (h, refl)) ws x e
 event_sound letters.Core ws x e = literals_line IsEvent event_words (codes "u") events.Core (λ ls h. (h, refl)) ws x e
+event_sound letters.Values ws x e = literals_line IsEvent event_words (codes "v") events.Values (λ ls h. (h, refl)) ws x e
+event_sound letters.Failed ws x e = literals_line IsEvent event_words (codes "f") events.Failed (λ ls h. (h, refl)) ws x e
 event_sound letters.Lemma ws x e = cc e
 event_sound letters.Deletion ws x e = cc e
 event_sound letters.Weakening ws x e = cc e
@@ -245,10 +255,12 @@ script_sound letters.Lemma ws x e = cc e
 script_sound letters.Deletion ws x e = cc e
 script_sound letters.Weakening ws x e = cc e
 script_sound letters.Restoring ws x e = cc e
+script_sound letters.Values ws x e = cc e
+script_sound letters.Failed ws x e = cc e
 script_sound letters.NoLetter ws x e = cc e
 
 -- an event's line in a proof without ids
-event_step_sound : (v : List ℕ) (ws : List (List ℕ)) (x : Step) (o : Result Event Fault) → ((e : Event) → o ≡ Ok e → Spells IsEvent event_words (v ∷ ws) e)
+event_step_sound : (v : List ℕ) (ws : List (List ℕ)) (x : Step) (o : Result Event Fault) → ((e : Event) → o ≡ Ok e → Spells IsProofEvent event_words (v ∷ ws) e)
     → (o >>= λ e. Ok (steps.Event e)) ≡ Ok x → Spells IsStep step_words (v ∷ ws) x
 event_step_sound v ws x (Ok e) sound h = subst (Spells IsStep step_words (v ∷ ws)) (ok_same (Ok (steps.Event e)) (steps.Event e) x refl h) (sound e refl)
 event_step_sound v ws x (Err f) sound h = cc h
@@ -259,11 +271,13 @@ step_sound letters.Lemma ws x e = literals_line IsStep step_words (codes "l") st
 step_sound letters.Deletion ws x e = literals_line IsStep step_words (codes "d") steps.Delete (λ ls h. (h, refl)) ws x e
 step_sound letters.Weakening ws x e = literals_line IsStep step_words (codes "w") steps.Weaken (λ ls h. (h, refl)) ws x e
 step_sound letters.Restoring ws x e = literals_line IsStep step_words (codes "r") steps.Restore (λ ls h. (h, refl)) ws x e
-step_sound letters.Input ws x e = event_step_sound (codes "i") ws x (event_at letters.Input ws) (event_sound letters.Input ws) e
-step_sound letters.Query ws x e = event_step_sound (codes "q") ws x (event_at letters.Query ws) (event_sound letters.Query ws) e
-step_sound letters.Status ws x e = event_step_sound (codes "s") ws x (event_at letters.Status ws) (event_sound letters.Status ws) e
-step_sound letters.Model ws x e = event_step_sound (codes "m") ws x (event_at letters.Model ws) (event_sound letters.Model ws) e
-step_sound letters.Core ws x e = event_step_sound (codes "u") ws x (event_at letters.Core ws) (event_sound letters.Core ws) e
+step_sound letters.Input ws x e = event_step_sound (codes "i") ws x (event_at letters.Input ws) (literals_line IsProofEvent event_words (codes "i") events.Input (λ ls h. (h, refl)) ws) e
+step_sound letters.Query ws x e = event_step_sound (codes "q") ws x (event_at letters.Query ws) (literals_line IsProofEvent event_words (codes "q") events.Query (λ ls h. (h, refl)) ws) e
+step_sound letters.Status ws x e = event_step_sound (codes "s") ws x (event_at letters.Status ws) (status_line IsProofEvent event_words (codes "s") events.Status (λ s. (tt, refl)) ws) e
+step_sound letters.Model ws x e = event_step_sound (codes "m") ws x (event_at letters.Model ws) (literals_line IsProofEvent event_words (codes "m") events.Model (λ ls h. (h, refl)) ws) e
+step_sound letters.Core ws x e = event_step_sound (codes "u") ws x (event_at letters.Core ws) (literals_line IsProofEvent event_words (codes "u") events.Core (λ ls h. (h, refl)) ws) e
+step_sound letters.Values ws x e = cc e
+step_sound letters.Failed ws x e = cc e
 step_sound letters.NoLetter ws x e = cc e
 
 id_input_sound : (ws : List (List ℕ)) (x : LStep) → id_step_at letters.Input ws ≡ Ok x → Spells IsIdStep id_step_words (codes "i" ∷ ws) x
@@ -302,6 +316,8 @@ id_step_sound letters.Model ws x e = literals_line IsIdStep id_step_words (codes
 id_step_sound letters.Deletion ws x e = ids_line IsIdStep id_step_words (codes "d") lsteps.Delete (λ is h. (h, refl)) ws x e
 id_step_sound letters.Weakening ws x e = ids_line IsIdStep id_step_words (codes "w") lsteps.Weaken (λ is h. (h, refl)) ws x e
 id_step_sound letters.Restoring ws x e = ids_line IsIdStep id_step_words (codes "r") lsteps.Restore (λ is h. (h, refl)) ws x e
+id_step_sound letters.Values ws x e = cc e
+id_step_sound letters.Failed ws x e = cc e
 id_step_sound letters.NoLetter ws x e = cc e
 
 -- what is read as a line of the interaction is spelled, and so in the other forms

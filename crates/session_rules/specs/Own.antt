@@ -69,6 +69,8 @@ event_faults ps (events.Status s) = order_faults (events_of ps) (events.Status s
 event_faults ps (events.Model m) = order_faults (events_of ps) (events.Model m) ++ model_faults (events_of ps) m
 event_faults ps (events.Core u) = order_faults (events_of ps) (events.Core u) ++ core_faults (events_of ps) u
     ++ broken_unless (closes (active_clauses ps) u) rules.CoreOpen
+event_faults ps (events.Values c) = order_faults (events_of ps) (events.Values c)
+event_faults ps (events.Failed c) = order_faults (events_of ps) (events.Failed c)
 
 -- the rules that a step breaks behind these steps, in the order of their numbers
 unfoldable pub own_faults : List Step → Step → List Rule

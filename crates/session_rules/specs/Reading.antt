@@ -97,7 +97,8 @@ status_word (w ∷ ws) = if same_word w (codes "SATISFIABLE") then Ok (Satisfiab
 abbrev pub letter_of_byte : ℕ → Letter
 letter_of_byte b = if nat_eq b 105 then letters.Input else (if nat_eq b 113 then letters.Query else (if nat_eq b 115 then letters.Status
     else (if nat_eq b 109 then letters.Model else (if nat_eq b 117 then letters.Core else (if nat_eq b 108 then letters.Lemma
-    else (if nat_eq b 100 then letters.Deletion else (if nat_eq b 119 then letters.Weakening else (if nat_eq b 114 then letters.Restoring else letters.NoLetter))))))))
+    else (if nat_eq b 100 then letters.Deletion else (if nat_eq b 119 then letters.Weakening else (if nat_eq b 114 then letters.Restoring
+    else (if nat_eq b 118 then letters.Values else (if nat_eq b 102 then letters.Failed else letters.NoLetter))))))))))
 
 -- the letter that a word is
 abbrev pub letter_of : List ℕ → Letter
@@ -122,6 +123,8 @@ event_at letters.Query ws = of_literals events.Query ws
 event_at letters.Status ws = of_status events.Status ws
 event_at letters.Model ws = of_literals events.Model ws
 event_at letters.Core ws = of_literals events.Core ws
+event_at letters.Values ws = of_literals events.Values ws
+event_at letters.Failed ws = of_literals events.Failed ws
 event_at _ ws = Err (wrong rules.Letter)
 
 -- of a script's line
@@ -136,6 +139,8 @@ step_at letters.Lemma ws = of_literals steps.Lemma ws
 step_at letters.Deletion ws = of_literals steps.Delete ws
 step_at letters.Weakening ws = of_literals steps.Weaken ws
 step_at letters.Restoring ws = of_literals steps.Restore ws
+step_at letters.Values ws = Err (wrong rules.Letter)
+step_at letters.Failed ws = Err (wrong rules.Letter)
 step_at letter ws = event_at letter ws >>= λ e. Ok (steps.Event e)
 
 -- of a line of a proof with ids
@@ -149,6 +154,8 @@ id_step_at letters.Model ws = of_literals lsteps.Model ws
 id_step_at letters.Deletion ws = of_ids lsteps.Delete ws
 id_step_at letters.Weakening ws = of_ids lsteps.Weaken ws
 id_step_at letters.Restoring ws = of_ids lsteps.Restore ws
+id_step_at letters.Values ws = Err (wrong rules.Letter)
+id_step_at letters.Failed ws = Err (wrong rules.Letter)
 id_step_at letters.NoLetter ws = Err (wrong rules.Letter)
 
 -- the letter, and what stands behind it

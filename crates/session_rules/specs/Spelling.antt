@@ -31,6 +31,8 @@ event_words (events.Query ls) = codes "q" ∷ literal_words ls
 event_words (events.Status s) = codes "s" ∷ status_text s ∷ []
 event_words (events.Model ls) = codes "m" ∷ literal_words ls
 event_words (events.Core ls) = codes "u" ∷ literal_words ls
+event_words (events.Values ls) = codes "v" ∷ literal_words ls
+event_words (events.Failed ls) = codes "f" ∷ literal_words ls
 
 -- of a line of a proof without ids
 abbrev pub step_words : Step → List (List ℕ)
@@ -88,6 +90,18 @@ IsEvent (events.Query ls) = AreLiterals ls
 IsEvent (events.Status s) = Unit {0}
 IsEvent (events.Model ls) = AreLiterals ls
 IsEvent (events.Core ls) = AreLiterals ls
+IsEvent (events.Values ls) = AreLiterals ls
+IsEvent (events.Failed ls) = AreLiterals ls
+
+-- of a proof: parts of models and of cores are lines of the interaction alone
+abbrev pub IsProofEvent : Event → Type 0
+IsProofEvent (events.Input ls) = AreLiterals ls
+IsProofEvent (events.Query ls) = AreLiterals ls
+IsProofEvent (events.Status s) = Unit {0}
+IsProofEvent (events.Model ls) = AreLiterals ls
+IsProofEvent (events.Core ls) = AreLiterals ls
+IsProofEvent (events.Values ls) = ⊥
+IsProofEvent (events.Failed ls) = ⊥
 
 -- of a script: inputs and queries alone
 abbrev pub IsScriptLine : Event → Type 0
@@ -96,7 +110,7 @@ IsScriptLine (events.Query ls) = AreLiterals ls
 IsScriptLine _ = ⊥
 
 abbrev pub IsStep : Step → Type 0
-IsStep (steps.Event e) = IsEvent e
+IsStep (steps.Event e) = IsProofEvent e
 IsStep (steps.Lemma ls) = AreLiterals ls
 IsStep (steps.Delete ls) = AreLiterals ls
 IsStep (steps.Weaken ls) = AreLiterals ls

@@ -1,7 +1,7 @@
 -- The faults of a pair in plain words. Each fault has a key, which says where it stands in the order in which faults count, and the
 -- verdict is the fault with the least key; likewise the verdict on a proof by itself. Places are counted by how many lines, steps
 -- or events stand before.
-use Rattle.std.specs.Prelude.{◌≡◌, ℕ, ◌<◌, ◌⊎◌, not, ◌&&◌, if◌then◌else◌, List, [], ◌∷◌, length, map, take, drop, count_by, Contains, slice_get, Option, Some, None, filter_map, Result, Ok, Err, codes}
+use Rattle.std.specs.Prelude.{◌≡◌, ℕ, ◌+◌, true, not, ◌&&◌, if◌then◌else◌, List, [], ◌∷◌, length, map, take, drop, count_by, Contains, slice_get, Option, Some, None, filter_map, Result, Ok, Err, codes}
 use Rattle.session_rules.specs.declared.Form.{Form}
 use Rattle.session_rules.specs.declared.Form.TheVariants.{Idrup, Lidrup}
 use Rattle.session_rules.specs.declared.Side.TheVariants.{Interaction, Proof}
@@ -19,7 +19,7 @@ use Rattle.session_rules.specs.Numbers.{rule_number}
 use Rattle.session_rules.specs.Keys.{Key, rank, IsAtMost, ComesUpTo}
 use Rattle.session_rules.specs.Keys as keys
 use Rattle.session_rules.specs.History.{phase, assumed}
-use Rattle.session_rules.specs.Pair.{ProofForm, without_ids, with_ids, pair_faults, Refusal, refusal, own_refusals, is_query, verdict}
+use Rattle.session_rules.specs.Pair.{ProofForm, without_ids, with_ids, partner_count, owes_partner, pair_faults, Refusal, refusal, own_refusals, is_query, verdict}
 use Rattle.session_rules.specs.Spelling.{numbered_values}
 
 -- ---- The lines and steps of a pair
@@ -82,15 +82,24 @@ pub record IsEventStep (form : Form) (ps : List (StepOf form)) (k : ℕ) (event 
   pub is_step : slice_get ps k ≡ Some step
   pub is_event : (rules_of form).event step ≡ Some event
 
--- the partner of an event step k: the line of the interaction that stands behind as many others as there are events before step k
-abbrev pub partner : (form : Form) → List ℕ → List (StepOf form) → ℕ → Option Line
-partner form a ps k = slice_get (body a) (length (events_among form (take k ps)))
+-- how many of some lines are partners of these events, which take them in turn
+unfoldable pub lines_taken : List Event → List Line → ℕ
+lines_taken [] ls = 0
+lines_taken (e ∷ es) ls = let count = partner_count e ls in count + lines_taken es (drop count ls)
 
--- step k is an event, this line is its partner and says an event, and the two break this rule
-pub record PairFault (form : Form) (a : List ℕ) (ps : List (StepOf form)) (k : ℕ) (line : Line) (rule : Rule) : Type 0 where
+-- the lines of the interaction that the events before step k leave
+abbrev pub lines_left : (form : Form) → List ℕ → List (StepOf form) → ℕ → List Line
+lines_left form a ps k = drop (lines_taken (events_among form (take k ps)) (body a)) (body a)
+
+-- the partners of step k, which is this event
+abbrev pub partners : (form : Form) → List ℕ → List (StepOf form) → ℕ → Event → List Line
+partners form a ps k event = let ls = lines_left form a ps k in take (partner_count event ls) ls
+
+-- step k is an event, this line is its partner behind n others and says an event, and the two break this rule
+pub record PairFault (form : Form) (a : List ℕ) (ps : List (StepOf form)) (k n : ℕ) (line : Line) (rule : Rule) : Type 0 where
   pub event : Event
   pub is_event_step : IsEventStep form ps k event
-  pub is_partner : partner form a ps k ≡ Some line
+  pub is_partner : slice_get (partners form a ps k event) n ≡ Some line
   pub said : Event
   pub is_said : value_of icnf_line line ≡ Ok said
   pub breaks : Contains (pair_faults (assumed (events_among form (take k ps))) event said) rule
@@ -105,16 +114,19 @@ pub data IsFault (form : Form) (a b : List ℕ) : Key → Refusal → Type 0 whe
   interaction_header : (number : ℕ) (rule : Rule) → header_fault (codes "icnf") a ≡ Some (number, rule) → IsFault form a b keys.interaction_header (refusal Interaction number rule)
   -- the proof has a fault by itself
   own : (key : Key) (r : Refusal) → IsOwnFault form b key r → IsFault form a b key r
-  -- step k is an event that has no partner
-  ended : (k : ℕ) (line : Line) (event : Event) → slice_get (body b) k ≡ Some line → IsEventStep form (steps_in form b) k event → partner form a (steps_in form b) k ≡ None
-      → IsFault form a b (keys.partner k) (refusal Proof line.number rules.Ended)
-  -- its partner is broken
-  partner_broken : (k : ℕ) (event : Event) (line : Line) (rule : Rule) → IsEventStep form (steps_in form b) k event → partner form a (steps_in form b) k ≡ Some line
-      → value_of icnf_line line ≡ Err rule → IsFault form a b (keys.partner k) (refusal Interaction line.number rule)
-  -- it breaks a rule with its partner
-  pair_rule : (k : ℕ) (line : Line) (rule : Rule) → PairFault form a (steps_in form b) k line rule → IsFault form a b (keys.pair_rule k (rule_number rule)) (refusal Interaction line.number rule)
+  -- step k is an event that owes a partner, and no line is left
+  ended : (k : ℕ) (line : Line) (event : Event) → slice_get (body b) k ≡ Some line → IsEventStep form (steps_in form b) k event → owes_partner event ≡ true
+      → lines_left form a (steps_in form b) k ≡ [] → IsFault form a b (keys.ended k) (refusal Proof line.number rules.Ended)
+  -- its partner behind n others is broken
+  partner_broken : (k n : ℕ) (event : Event) (line : Line) (rule : Rule) → IsEventStep form (steps_in form b) k event
+      → slice_get (partners form a (steps_in form b) k event) n ≡ Some line → value_of icnf_line line ≡ Err rule
+      → IsFault form a b (keys.partner_spelling k n) (refusal Interaction line.number rule)
+  -- it breaks a rule with its partner behind n others
+  pair_rule : (k n : ℕ) (line : Line) (rule : Rule) → PairFault form a (steps_in form b) k n line rule
+      → IsFault form a b (keys.pair_rule k n (rule_number rule)) (refusal Interaction line.number rule)
   -- all lines of the proof say steps, and the interaction has a line behind the partners of all events
-  surplus : (line : Line) → length (steps_in form b) ≡ length (body b) → slice_get (body a) (length (events_among form (steps_in form b))) ≡ Some line
+  surplus : (line : Line) → length (steps_in form b) ≡ length (body b)
+      → slice_get (body a) (lines_taken (events_among form (steps_in form b)) (body a)) ≡ Some line
       → IsFault form a b keys.further_line (refusal Interaction line.number (further_rule line))
 
 -- ---- The verdict

@@ -1,6 +1,6 @@
 -- The first wrong word of a line and its rule, said of the lines that are spelled: a word is wrong where the words up to
 -- and with it begin no spelled line, and its rule is told by what could stand in its place.
-use Rattle.std.specs.Prelude.{ℕ, ◌≡◌, ◌⊎◌, Bool, true, false, if◌then◌else◌, List, [], ◌∷◌, ◌++◌, codes}
+use Rattle.std.specs.Prelude.{ℕ, ◌≡◌, true, false, if◌then◌else◌, List, [], ◌∷◌, ◌++◌, codes}
 use Rattle.lits.specs.declared.LitWord.{LitWord}
 use Rattle.lits.specs.declared.LitWord.TheVariants as literals
 use Rattle.lits.specs.declared.IdWord.{IdWord}

@@ -130,6 +130,8 @@ pub enum Letter {
     Deletion,
     Weakening,
     Restoring,
+    Values,
+    Failed,
     NoLetter,
 }
 
@@ -157,7 +159,8 @@ pub enum Standing {
     Absent,
 }
 
-/// A line of the interaction.
+/// A line of the interaction. `Values` and `Failed` are parts of a model and of a core that were asked for; they are lines of
+/// the interaction alone, and the events of a proof are the other five.
 #[derive(Debug, Drop)]
 pub enum Event {
     Input(Lits),
@@ -165,6 +168,8 @@ pub enum Event {
     Status(StatusWord),
     Model(Lits),
     Core(Lits),
+    Values(Lits),
+    Failed(Lits),
 }
 
 /// A line of a proof without ids.
@@ -222,6 +227,7 @@ pub enum Rule {
     CoreClaim(Lit),
     Unfinished,
     Surplus,
+    FailedPart(Lit),
 }
 
 /// What is said of a pair.
@@ -268,8 +274,12 @@ impl Event {
         ensures { result.now ≡ event_literals self.now }
     {
         match self {
-            Event::Input(ls) | Event::Query(ls) | Event::Model(ls) | Event::Core(ls) =>
-                ls.as_slice(),
+            Event::Input(ls)
+            | Event::Query(ls)
+            | Event::Model(ls)
+            | Event::Core(ls)
+            | Event::Values(ls)
+            | Event::Failed(ls) => ls.as_slice(),
             Event::Status(_) => &[],
         }
     }
@@ -309,6 +319,7 @@ impl Rule {
             Rule::CoreClaim(_) => 26,
             Rule::Unfinished => 27,
             Rule::Surplus => 28,
+            Rule::FailedPart(_) => 29,
         }
     }
 }

@@ -1,6 +1,6 @@
 // The laws of the verdict, each the contract of a function that does nothing. A key says where a fault stands in the order
 // in which faults count.
-ghost use Rattle.std.specs.Prelude.{◌≡◌, ◌≤◌, ◌↔◌, ℕ, List, length, codes, slice_get, Option, Some, None, Err};
+ghost use Rattle.std.specs.Prelude.{◌≡◌, ◌≤◌, ◌⊎◌, ◌↔◌, ℕ, List, length, codes, slice_get, Option, Some, None, Err};
 ghost use Rattle.session_rules.specs.declared.Form.{Form};
 ghost use Rattle.session_rules.specs.declared.Phase.TheVariants.{Idle};
 ghost use Rattle.session_rules.specs.declared.Rule.{Rule};
@@ -28,8 +28,9 @@ pub fn most_bytes_bound_the_verdict()
     ensures { (form : Form) (a b : List ℕ) → verdict form a b ≡ verdict_within most_bytes form a b }
 {}
 
-/// A fault of an earlier key comes first: the headers, then for each step in turn its line, its own rules and its partner, then an
-/// open query, and last a line that is left. A step's own rules have the numbers 9 to 19, and those of it and its partner 21 to 26.
+/// A fault of an earlier key comes first: the headers, then for each step in turn its line, its own rules and its partners one after
+/// another, then an open query, and last a line that is left. A step's own rules have the numbers 9 to 19, and those of it and one
+/// of its partners 21 to 26, and 29.
 pub fn earlier_faults_come_first()
     ensures refused { (form : Form) (a b : List ℕ) (key : Key) (r : Refusal) → IsFault form a b key r → RefusedUpTo form a b key }
     ensures interaction_header { (form : Form) (a b : List ℕ) (number : ℕ) (rule : Rule)
@@ -42,8 +43,8 @@ pub fn earlier_faults_come_first()
         → OwnFault form (steps_in form b) k rule → RefusedUpTo form a b (keys.own_rule k 19) }
     ensures own_numbers { (form : Form) (ps : List (StepOf form)) (k : ℕ) (rule : Rule)
         → OwnFault form ps k rule → (9 ≤ rule_number rule) × (rule_number rule ≤ 19) }
-    ensures pair_numbers { (form : Form) (a : List ℕ) (ps : List (StepOf form)) (k : ℕ) (line : Line) (rule : Rule)
-        → PairFault form a ps k line rule → (21 ≤ rule_number rule) × (rule_number rule ≤ 26) }
+    ensures pair_numbers { (form : Form) (a : List ℕ) (ps : List (StepOf form)) (k n : ℕ) (line : Line) (rule : Rule)
+        → PairFault form a ps k n line rule → (21 ≤ rule_number rule) × ((rule_number rule ≤ 26) ⊎ (rule_number rule ≡ 29)) }
     ensures unfinished { (form : Form) (a b : List ℕ) → length (steps_in form b) ≡ length (body b)
         → (phase (events_among form (steps_in form b)) ≡ Idle → ⊥) → RefusedUpTo form a b keys.open_query }
 {}

@@ -6,6 +6,10 @@ mod causes;
 #[cfg(test)]
 mod chains;
 #[cfg(test)]
+mod cuts;
+#[cfg(test)]
 mod pairs;
+#[cfg(test)]
+mod partial;
 #[cfg(test)]
 mod running;

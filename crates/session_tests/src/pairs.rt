@@ -5,11 +5,11 @@ use std::alloc::{AllocError, Global};
 use std::test::Fail;
 
 /// A pair, what it shows, and its report without the line feed.
-struct Pair {
-    shows: &'static str,
-    interaction: &'static str,
-    proof: &'static str,
-    report: &'static str,
+pub(crate) struct Pair {
+    pub(crate) shows: &'static str,
+    pub(crate) interaction: &'static str,
+    pub(crate) proof: &'static str,
+    pub(crate) report: &'static str,
 }
 
 // Headers, models and cores.
@@ -480,8 +480,8 @@ const AT_THE_LIMIT: [Pair; 3] = [
     },
 ];
 
-// Checks one pair in pieces of this size, and says whether status and report are those.
-fn is_told(
+/// Checks one pair in pieces of this size, and says whether status and report are those.
+pub(crate) fn is_told(
     alloc: Global,
     interaction: &[u8],
     proof: &[u8],
@@ -494,8 +494,8 @@ fn is_told(
     Ok(ran.status == status && ran.report.bytes() == line.as_slice())
 }
 
-// Checks each pair of a table in pieces of these sizes, and says which is the first that is told otherwise.
-fn first_told_otherwise(
+/// Checks each pair of a table in pieces of these sizes, and says which is the first that is told otherwise.
+pub(crate) fn first_told_otherwise(
     alloc: Global,
     pairs: &[Pair],
     sizes: &[usize],

@@ -65,6 +65,8 @@ silent_step gs (steps.Event (events.Query c)) e f g = (refl, refl)
 silent_step gs (steps.Event (events.Status w)) e f g = (refl, refl)
 silent_step gs (steps.Event (events.Model c)) e f g = (refl, refl)
 silent_step gs (steps.Event (events.Core c)) e f g = (refl, refl)
+silent_step gs (steps.Event (events.Values c)) e f g = (refl, refl)
+silent_step gs (steps.Event (events.Failed c)) e f g = (refl, refl)
 silent_step gs (steps.Lemma c) e f g = cc e
 silent_step gs (steps.Delete c) e f g = cc f
 silent_step gs (steps.Weaken c) e f g = cc f
@@ -76,6 +78,8 @@ giving_step gs (steps.Event (events.Query d)) c e = cc e
 giving_step gs (steps.Event (events.Status w)) c e = cc e
 giving_step gs (steps.Event (events.Model d)) c e = cc e
 giving_step gs (steps.Event (events.Core d)) c e = cc e
+giving_step gs (steps.Event (events.Values d)) c e = cc e
+giving_step gs (steps.Event (events.Failed d)) c e = cc e
 giving_step gs (steps.Lemma d) c e = (ap (λ z. gs ++ standing_so Active z ∷ []) (same_Some _ _ e), refl)
 giving_step gs (steps.Delete d) c e = cc e
 giving_step gs (steps.Weaken d) c e = cc e
@@ -284,6 +288,8 @@ module _ (c : List ℕ) (gs : List GivenClause) where
   active-step (steps.Event (events.Status w)) e = step-idle is_active added_clause removed_clause (steps.Event (events.Status w)) refl refl refl
   active-step (steps.Event (events.Model d)) e = step-idle is_active added_clause removed_clause (steps.Event (events.Model d)) refl refl refl
   active-step (steps.Event (events.Core d)) e = step-idle is_active added_clause removed_clause (steps.Event (events.Core d)) refl refl refl
+  active-step (steps.Event (events.Values d)) e = step-idle is_active added_clause removed_clause (steps.Event (events.Values d)) refl refl refl
+  active-step (steps.Event (events.Failed d)) e = step-idle is_active added_clause removed_clause (steps.Event (events.Failed d)) refl refl refl
   active-step (steps.Lemma d) e = step-new-active (steps.Lemma d) d refl refl refl
   active-step (steps.Delete d) e = let x = one-none added_clause (steps.Delete d) c refl in let y = one-some removed_clause (steps.Delete d) c d refl in
       let z = many-turned is_active is_active Absent true (λ s h. h) c d gs e in record { is = omega arith }
@@ -298,6 +304,8 @@ module _ (c : List ℕ) (gs : List GivenClause) where
   weakened-step (steps.Event (events.Status w)) e = step-idle is_weakened weakened_clause restored_clause (steps.Event (events.Status w)) refl refl refl
   weakened-step (steps.Event (events.Model d)) e = step-idle is_weakened weakened_clause restored_clause (steps.Event (events.Model d)) refl refl refl
   weakened-step (steps.Event (events.Core d)) e = step-idle is_weakened weakened_clause restored_clause (steps.Event (events.Core d)) refl refl refl
+  weakened-step (steps.Event (events.Values d)) e = step-idle is_weakened weakened_clause restored_clause (steps.Event (events.Values d)) refl refl refl
+  weakened-step (steps.Event (events.Failed d)) e = step-idle is_weakened weakened_clause restored_clause (steps.Event (events.Failed d)) refl refl refl
   weakened-step (steps.Lemma d) e = step-new-weakened (steps.Lemma d) d refl refl refl
   weakened-step (steps.Delete d) e = let x = one-none weakened_clause (steps.Delete d) c refl in let y = one-none restored_clause (steps.Delete d) c refl in
       let z = many-turned is_active is_weakened Absent false is_other c d gs e in record { is = omega arith }

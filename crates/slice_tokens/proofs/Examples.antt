@@ -1,8 +1,9 @@
 -- What is due on small lines, and before the first line.
 use Rattle.std.proofs.Common.{◌≡◌, ℕ, Bool, true, false, List, [], ◌∷◌, refl}
 use Rattle.std.specs.Prelude.{codes}
-use Rattle.session_rules.specs.Lines.{Line}
-use Rattle.slice_tokens.specs.Place.{at_start}
+use Rattle.session_rules.specs.Lines.{Line, all_lines, numbered, words, ends_in_word}
+use Rattle.slice_tokens.specs.Place.{Place, at_start, present, following, lines_behind, later}
+use Rattle.slice_tokens.specs.declared.window.Standing.TheVariants.{Content}
 use Rattle.slice_tokens.specs.Due.{due, due_word, due_end, due_long, due_cut}
 use Rattle.slice_tokens.specs.Calls.{at_line_end}
 
@@ -41,3 +42,15 @@ no_end = refl
 
 start : at_line_end at_start ≡ true
 start = refl
+
+-- a line is due while no word of it was taken, and then those behind it
+abbrev at_word : Bool → Place
+at_word fresh = record at_start { standing = Content; fresh = fresh }
+
+line_due : later (at_word true) (codes "q 0") ≡ whole (codes "q" ∷ codes "0" ∷ []) ∷ []
+unfolding later present lines_behind following all_lines numbered words ends_in_word
+line_due = refl
+
+line_taken : later (at_word false) (codes "q 0") ≡ []
+unfolding later present lines_behind following all_lines numbered words ends_in_word
+line_taken = refl

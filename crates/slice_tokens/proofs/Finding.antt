@@ -11,7 +11,7 @@ use Rattle.slice_tokens.specs.Calls.{without_first}
 use Rattle.slice_tokens.specs.Held.{passed_over, is_word_byte, readable, blanks, word_len, Next, Finds}
 use Rattle.slice_tokens.proofs.Texts.{Runs, Free-from_Runs}
 use Rattle.slice_tokens.proofs.Rows.{rows, first_text, more_texts, Stops, Closes, rows_word, rows_shape, word_before, due_at_word, due_at_end, due_at_long, due_at_cut, word_not_line_feed}
-use Rattle.slice_tokens.proofs.Places.{Fails, fails_prefix, visible, lines_are, present_is, following_is, later_is, last_is, visible_after, cut_after, count_free, beyond, word, behind, looked, looked_bounds, looked_visible, looked_cut, Stands, word_held, runs_word, length-word}
+use Rattle.slice_tokens.proofs.Places.{Fails, fails_prefix, visible, lines_are, present_is, following_is, behind_is, last_is, visible_after, cut_after, count_free, beyond, word, behind, looked, looked_bounds, looked_visible, looked_cut, passed_held, Stands, word_held, runs_word, length-word}
 
 -- a byte that is no word's and no blank is a line feed
 pub line_feed_left : (y : ℕ) → is_word_byte y ≡ false → is_blank y ≡ false → is_line_feed y ≡ true
@@ -112,9 +112,10 @@ next_some p b n f some here bound s =
       present = present_is q u f ∙ ap (first_of (bare_line p.line)) after
           ∙ sym (ap (λ (l : Line). let k : Line = record l { words = without_first l.words } in k) (present_is p t f ∙ ap (first_of (bare_line p.line)) before));
       behind = record {
-        later = later_is q u ∙ ap (filter counts) (following_is q u ∙ ap (λ st. following_of st (lines_from q u)) f ∙ ap behind_first after)
-            ∙ sym (later_is p t ∙ ap (filter counts) (following_is p t ∙ ap (λ st. following_of st (lines_from p t)) f ∙ ap behind_first before));
+        lines = behind_is q u ∙ ap (filter counts) (following_is q u ∙ ap (λ st. following_of st (lines_from q u)) f ∙ ap behind_first after)
+            ∙ sym (behind_is p t ∙ ap (filter counts) (following_is p t ∙ ap (λ st. following_of st (lines_from p t)) f ∙ ap behind_first before));
         cut = cut_after n p b here bound;
+        passed = passed_held n p q b here refl;
         last = last_is q u ∙ ap (λ l. p.line + count_by is_line_feed l) seen
             ∙ sym (last_is p t ∙ ap (λ l. p.line + count_by is_line_feed l) s.whole ∙ ap (λ k. p.line + k) (count_free is_line_feed s.word s.rest (Free-from_Runs is_word_byte is_line_feed word_not_line_feed s.word s.runs)));
       };

@@ -2,7 +2,7 @@
 use Rattle.std.proofs.Common.{◌≡◌, ℕ, ◌+◌, ◌<◌, ◌≤◌, Bool, true, false, not, ◌||◌, nat_eq, List, [], ◌∷◌, ◌++◌, length, take, drop, if◌then◌else◌, Option, Some, None, IfSome, refl, sym, ap, ◌∙◌, subst, arith, eqb-true}
 use Rattle.std.proofs.Common.{length-take}
 use Rattle.std.proofs.Math.Seq.{drop-nil}
-use Rattle.std.proofs.lemmas.List.{drop-drop, drop-take}
+use Rattle.std.proofs.lemmas.List.{drop-take}
 use Rattle.std.proofs.lemmas.Bool.{and_parts}
 use Rattle.std.specs.List.{prefix_len}
 use Rattle.session_rules.specs.Lines.{Line, is_blank, is_line_feed, most_bytes}
@@ -13,7 +13,7 @@ use Rattle.slice_tokens.specs.Due.{due, due_word, due_end}
 use Rattle.slice_tokens.specs.Calls.{without_first, stands_in_content}
 use Rattle.slice_tokens.specs.Held.{passed_over, is_word_byte, readable, blanks, word_len}
 use Rattle.slice_tokens.specs.Front.{without_space, behind_space, coming, at_line_feed, IsWordFront, TakesWord}
-use Rattle.slice_tokens.proofs.Places.{looked, looked_same, Stands, word_held}
+use Rattle.slice_tokens.proofs.Places.{passed_twice, looked, looked_same, Stands, word_held}
 use Rattle.slice_tokens.proofs.Finding.{stands_ended, due_zero, due_some, next_some, word_bounds}
 use Rattle.slice_tokens.proofs.LineEnd.{no_word, looked_none}
 use Rattle.slice_tokens.proofs.Told.{told_refl, told_step, later_trans}
@@ -84,11 +84,8 @@ found_first p n h =
 
 space_passed : (p : Place) (n : ℕ) → blanks p ≡ 1 → passed_over n (looked p) ≡ passed_over (n + 1) p
 space_passed p n e =
-    let sum : p.passed + 1 + n ≡ p.passed + (n + 1) = omega arith in
     let both : 1 + n ≡ n + 1 = omega arith in
-    ap (λ k. passed_over n (passed_over k p)) e
-    ∙ ap (λ (l : List ℕ). let q : Place = record p { held = l; passed = p.passed + 1 + n } in q) (drop-drop n 1 p.held ∙ ap (λ k. drop k p.held) both)
-    ∙ ap (λ (k : ℕ). let q : Place = record p { held = drop (n + 1) p.held; passed = k } in q) sum
+    ap (λ k. passed_over n (passed_over k p)) e ∙ passed_twice p 1 n ∙ ap (λ k. passed_over k p) both
 
 takes : (p : Place) (n : ℕ) (s b : List ℕ) → p.passed ≤ most_bytes → Found p n s → TakesWord (take n s) p (p.held ++ b) (passed_over n (looked p)) (drop n (drop (blanks p) p.held) ++ b)
 takes p n s b bound f =
@@ -134,13 +131,6 @@ coming_bounds p n bound h =
     let within = bytes_coming p.standing (readable p) n h in
     let long = length-take (room p) p.held in
     (omega (arith, within, long), omega (arith, within, long, bound))
-
--- n bytes behind m are so many together
-pub passed_twice : (p : Place) (m n : ℕ) → passed_over n (passed_over m p) ≡ passed_over (m + n) p
-passed_twice p m n =
-    let sum : p.passed + m + n ≡ p.passed + (m + n) = omega arith in
-    ap (λ (l : List ℕ). let q : Place = record p { held = l; passed = p.passed + m + n } in q) (drop-drop n m p.held)
-    ∙ ap (λ (k : ℕ). let q : Place = record p { held = drop (m + n) p.held; passed = k } in q) sum
 
 -- what comes behind the first m bytes
 coming_behind : (st : Standing) (r s : List ℕ) (m : ℕ) → (m ≤ length r → s ≡ drop m r) → m ≤ length (if stands_in_content st then r else []) → (if stands_in_content st then s else []) ≡ drop m (if stands_in_content st then r else [])

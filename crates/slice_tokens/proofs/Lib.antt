@@ -11,3 +11,5 @@ pub mod Ending
 pub mod LineEnd
 pub mod Examples
 pub mod Front
+pub mod Entered
+pub mod Taking

@@ -1,7 +1,7 @@
 -- Laws on where a window stands.
-use Rattle.std.proofs.Common.{◌≡◌, ℕ, suc, ◌+◌, ◌-◌, ◌<◌, ◌≤◌, Bool, true, false, ◌&&◌, nat_lt, List, [], ◌∷◌, ◌++◌, length, take, drop, get_or, filter, if◌then◌else◌, refl, sym, ap, ◌∙◌, subst, arith, zero-add, append-nil, append_assoc, length-append, length-take, length-drop, take-append-drop}
+use Rattle.std.proofs.Common.{◌≡◌, ℕ, zero, suc, ◌+◌, ◌-◌, ◌<◌, ◌≤◌, Bool, true, false, ◌&&◌, nat_eq, nat_lt, List, [], ◌∷◌, ◌++◌, length, take, drop, get_or, filter, if◌then◌else◌, refl, sym, ap, ◌∙◌, subst, arith, zero-add, add-zero, ne_eqb, append-nil, append_assoc, length-append, length-take, length-drop, take-append-drop}
 use Rattle.std.proofs.lemmas.Bool.{ltb_from_iff, ltb-true, lt-ltb, ltb-false, false≢true, true≢false}
-use Rattle.std.proofs.lemmas.List.{drop-take, take-take, take-append-le, drop-append-le, drop_more, take_all}
+use Rattle.std.proofs.lemmas.List.{drop-drop, drop-take, take-take, take-append-le, drop-append-le, drop_more, take_all}
 use Rattle.std.proofs.Math.Seq.{take-append-add}
 use Rattle.std.proofs.lemmas.List.Sums.{prefix_len-le-length, sum_by-cons}
 use Rattle.std.proofs.lemmas.List.Folds.{length-prefix_len}
@@ -9,8 +9,8 @@ use Rattle.std.specs.List.{prefix_len, count_by}
 use Rattle.session_rules.specs.Lines.{is_blank, is_line_feed, is_nil, ends_in_word, line_of, all_lines, counts, most_bytes}
 use Rattle.slice_tokens.specs.declared.window.Standing.{Standing}
 use Rattle.slice_tokens.specs.declared.window.Standing.TheVariants.{Start, Content, Comment}
-use Rattle.slice_tokens.specs.Place.{Place, room, lines_from, first_of, bare_line, present_of, following_of, present, following, later, is_cut, last_line}
-use Rattle.slice_tokens.specs.Calls.{SameLater}
+use Rattle.slice_tokens.specs.Place.{Place, room, lines_from, first_of, bare_line, present_of, following_of, present, following, lines_behind, later, is_cut, last_line}
+use Rattle.slice_tokens.specs.Calls.{Passed, SameLater}
 use Rattle.slice_tokens.specs.Held.{passed_over, is_word_byte, readable, blanks, word_len, Same, same_standing}
 use Rattle.slice_tokens.proofs.Texts.{Runs, Free, Free-from_Runs}
 use Rattle.slice_tokens.proofs.Rows.{rows, more_texts, first_text, rows_shape, Stops, Closes, rows_blanks, blank_not_line_feed}
@@ -56,9 +56,26 @@ pub following_is : (p : Place) (t : List ℕ) → following p t ≡ following_of
 unfolding following
 following_is p t = refl
 
-pub later_is : (p : Place) (t : List ℕ) → later p t ≡ filter counts (following p t)
+pub behind_is : (p : Place) (t : List ℕ) → lines_behind p t ≡ filter counts (following p t)
+unfolding lines_behind
+behind_is p t = refl
+
+-- what is due, once a word of the present line was taken, and before that
+pub later_taken : (p : Place) (t : List ℕ) → p.fresh ≡ false → later p t ≡ lines_behind p t
 unfolding later
-later_is p t = refl
+later_taken p t e = ap (λ q. if q then present p t ∷ lines_behind p t else lines_behind p t) e
+
+pub later_fresh : (p : Place) (t : List ℕ) → p.fresh ≡ true → later p t ≡ present p t ∷ lines_behind p t
+unfolding later
+later_fresh p t e = ap (λ q. if q then present p t ∷ lines_behind p t else lines_behind p t) e
+
+-- what is due is the same where both of these are
+pub later_same : (p q : Place) (t u : List ℕ) → q.fresh ≡ p.fresh → present q u ≡ present p t → lines_behind q u ≡ lines_behind p t → later q u ≡ later p t
+unfolding later
+later_same p q t u e here behind =
+    ap (λ c. if c then present q u ∷ lines_behind q u else lines_behind q u) e
+    ∙ ap (λ l. if p.fresh then l ∷ lines_behind q u else lines_behind q u) here
+    ∙ ap (λ ls. if p.fresh then present p t ∷ ls else ls) behind
 
 pub last_is : (p : Place) (t : List ℕ) → last_line p t ≡ p.line + count_by is_line_feed (visible p t)
 unfolding last_line
@@ -201,15 +218,65 @@ looked_cut p b h = let bounds = looked_bounds p h in cut_after (blanks p) p b bo
 pub looked_last : (p : Place) (b : List ℕ) → p.passed ≤ most_bytes → last_line (looked p) (drop (blanks p) p.held ++ b) ≡ last_line p (p.held ++ b)
 looked_last p b h = last_free (blanks p) p b h (blanks_le p) (free_blanks p)
 
+-- ---- the bytes that were passed over
+
+pub passed_refl : (p : Place) (t : List ℕ) → Passed p t p t
+passed_refl p t = record { front = []; whole = refl; count = sym (add-zero p.passed) }
+
+pub passed_trans : (p q r : Place) (t u v : List ℕ) → Passed p t q u → Passed q u r v → Passed p t r v
+passed_trans p q r t u v h k = record {
+  front = h.front ++ k.front;
+  whole = h.whole ∙ ap (λ l. h.front ++ l) k.whole ∙ sym (append_assoc h.front k.front v);
+  count = omega (arith, h.count, k.count, length-append h.front k.front);
+}
+
+-- n of those that are held
+pub passed_held : (n : ℕ) (p q : Place) (b : List ℕ) → n ≤ length p.held → q.passed ≡ p.passed + n → Passed p (p.held ++ b) q (drop n p.held ++ b)
+passed_held n p q b here e = record {
+  front = take n p.held;
+  whole = ap (λ l. l ++ b) (sym (take-append-drop n p.held)) ∙ append_assoc (take n p.held) (drop n p.held) b;
+  count = omega (arith, e, length-take n p.held);
+}
+
+-- ---- whether a word was taken
+
+and_false : (q : Bool) → (q && false) ≡ false
+and_false true = refl
+and_false false = refl
+
+-- a line of which a word was taken stays so
+pub passed_taken : (n : ℕ) (p : Place) → p.fresh ≡ false → (passed_over n p).fresh ≡ false
+passed_taken n p e = ap (λ q. nat_eq n 0 && q) e ∙ and_false (nat_eq n 0)
+
+-- and it is so behind some bytes
+pub passed_some : (n : ℕ) (p : Place) → 0 < n → (passed_over n p).fresh ≡ false
+passed_some n p h = ap (λ q. q && p.fresh) (ne_eqb n 0 (λ e. omega (arith, h, e)))
+
+fresh_twice : (m n : ℕ) (f : Bool) → (nat_eq n 0 && (nat_eq m 0 && f)) ≡ (nat_eq (m + n) 0 && f)
+fresh_twice zero n f = ap (λ k. nat_eq k 0 && f) (sym (zero-add n))
+fresh_twice (suc m) n f =
+    ap (λ q. nat_eq n 0 && (q && f)) (ne_eqb (suc m) 0 (λ e. omega (arith, e))) ∙ and_false (nat_eq n 0)
+    ∙ sym (ap (λ q. q && f) (ne_eqb (suc m + n) 0 (λ e. omega (arith, e))))
+
+-- n bytes behind m are so many together
+pub passed_twice : (p : Place) (m n : ℕ) → passed_over n (passed_over m p) ≡ passed_over (m + n) p
+passed_twice p m n =
+    let sum : p.passed + m + n ≡ p.passed + (m + n) = omega arith in
+    let f = nat_eq n 0 && (nat_eq m 0 && p.fresh) in
+    ap (λ (l : List ℕ). let q : Place = record p { held = l; passed = p.passed + m + n; fresh = f } in q) (drop-drop n m p.held)
+    ∙ ap (λ (k : ℕ). let q : Place = record p { held = drop (m + n) p.held; passed = k; fresh = f } in q) sum
+    ∙ ap (λ (c : Bool). let q : Place = record p { held = drop (m + n) p.held; passed = p.passed + (m + n); fresh = c } in q) (fresh_twice m n p.fresh)
+
 -- blanks change nothing of the lines to come
 pub looked_later : (p : Place) (b : List ℕ) → p.passed ≤ most_bytes → SameLater p (p.held ++ b) (looked p) (drop (blanks p) p.held ++ b)
 looked_later p b h =
     let t = p.held ++ b in
     let u = drop (blanks p) p.held ++ b in
     record {
-      later = later_is (looked p) u ∙ ap (filter counts) (following_is (looked p) u ∙ ap (following_of p.standing) (looked_lines p b h) ∙ sym (following_is p t)) ∙ sym (later_is p t);
+      lines = behind_is (looked p) u ∙ ap (filter counts) (following_is (looked p) u ∙ ap (following_of p.standing) (looked_lines p b h) ∙ sym (following_is p t)) ∙ sym (behind_is p t);
       cut = looked_cut p b h;
       last = looked_last p b h;
+      passed = passed_held (blanks p) p (looked p) b (looked_bounds p h).0 refl;
     }
 
 pub looked_same : (p : Place) (b : List ℕ) → p.passed ≤ most_bytes → p.standing ≡ Content → Same p (p.held ++ b) (looked p) (drop (blanks p) p.held ++ b)

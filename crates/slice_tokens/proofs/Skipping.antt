@@ -1,27 +1,29 @@
 -- What a step to the next content line keeps.
-use Rattle.std.proofs.Common.{◌≡◌, ◌≢◌, ℕ, zero, suc, ◌+◌, ◌<◌, ◌≤◌, Bool, true, false, not, ◌&&◌, ◌||◌, ◌==◌, List, [], ◌∷◌, ◌++◌, length, take, drop, get_or, filter, if◌then◌else◌, refl, sym, ap, ◌∙◌, arith, append-nil, add_assoc}
+use Rattle.std.proofs.Common.{◌≡◌, ◌≢◌, ℕ, zero, suc, ◌+◌, ◌<◌, ◌≤◌, Bool, true, false, not, ◌&&◌, ◌||◌, ◌==◌, nat_eq, List, [], ◌∷◌, ◌++◌, length, take, drop, get_or, filter, if◌then◌else◌, refl, sym, ap, ◌∙◌, arith, append-nil, add_assoc}
 use Rattle.std.proofs.lemmas.Bool.{eqb-true}
 use Rattle.std.proofs.lemmas.List.Sums.{prefix_len_stops}
 use Rattle.std.specs.List.{count_by}
 use Rattle.session_rules.specs.Lines.{Line, is_nil, is_blank, is_line_feed, words, line_of, numbered, has_content, counts, most_bytes}
 use Rattle.slice_tokens.specs.declared.window.Standing.{Standing}
 use Rattle.slice_tokens.specs.declared.window.Standing.TheVariants.{Start, Content, Comment}
-use Rattle.slice_tokens.specs.Place.{Place, lines_from, first_of, behind_first, in_comment, without_words, bare_line, present, following_of, later, is_cut, last_line}
-use Rattle.slice_tokens.specs.Calls.{but_comment, SameContent}
-use Rattle.slice_tokens.specs.Held.{same_standing, passed_over, past_line, is_word_byte, readable, blanks, EntersLine}
+use Rattle.slice_tokens.specs.Place.{Place, begins_content, lines_from, first_of, behind_first, in_comment, without_words, bare_line, present, following_of, lines_behind, is_cut, last_line}
+use Rattle.slice_tokens.specs.Calls.{but_comment}
+use Rattle.slice_tokens.specs.Held.{same_standing, passed_over, past_line, is_word_byte, readable, blanks, SameBehind, EntersLine}
+use Rattle.slice_tokens.proofs.LineEnd.{looked_readable}
+use Rattle.std.proofs.lemmas.List.{drop_more}
 use Rattle.slice_tokens.proofs.Texts.{Free, words_blanks, words_nil}
 use Rattle.slice_tokens.proofs.Rows.{rows, first_text, more_texts, rows_shape, rows_end, rows_blanks, content_at_word, uncounted, following_front, following_end}
-use Rattle.slice_tokens.proofs.Places.{runs_prefix, visible, lines_are, present_is, following_is, later_is, last_is, cut_after, count_free, count_one, looked, looked_lines, looked_cut, looked_last, looked_later, free_blanks, pass_bounds, left, seen_after, seen_before, seen_at, last_free}
+use Rattle.slice_tokens.proofs.Places.{runs_prefix, visible, lines_are, present_is, following_is, behind_is, last_is, cut_after, count_free, count_one, looked, looked_lines, looked_cut, looked_last, looked_later, free_blanks, pass_bounds, passed_held, looked_bounds, left, seen_after, seen_before, seen_at, last_free}
 
 -- the lines to come as those of what may be read
-later_rows : (p : Place) (t : List ℕ) (st : Standing) (c : Bool) (v : List ℕ) → p.standing ≡ st → is_cut p t ≡ c → visible p t ≡ v → later p t ≡ filter counts (following_of st (rows p.line c v))
-later_rows p t st c v e k s =
-    later_is p t ∙ ap (filter counts) (following_is p t ∙ ap (λ x. following_of x (lines_from p t)) e ∙ ap (following_of st) (lines_are p t ∙ ap (λ x. rows p.line x (visible p t)) k ∙ ap (rows p.line c) s))
+behind_rows : (p : Place) (t : List ℕ) (st : Standing) (c : Bool) (v : List ℕ) → p.standing ≡ st → is_cut p t ≡ c → visible p t ≡ v → lines_behind p t ≡ filter counts (following_of st (rows p.line c v))
+behind_rows p t st c v e k s =
+    behind_is p t ∙ ap (filter counts) (following_is p t ∙ ap (λ x. following_of x (lines_from p t)) e ∙ ap (following_of st) (lines_are p t ∙ ap (λ x. rows p.line x (visible p t)) k ∙ ap (rows p.line c) s))
 
 -- ---- over the rest of a line
 
 pub rest_skip : (n : ℕ) (p : Place) (b : List ℕ) → p.passed ≤ most_bytes → same_standing p.standing Start ≡ false → n ≤ length (readable p) → Free is_line_feed (take n (readable p))
-    → SameContent p (p.held ++ b) (passed_over n p) (drop n p.held ++ b)
+    → SameBehind p (p.held ++ b) (passed_over n p) (drop n p.held ++ b)
 rest_skip n p b h f inside free =
     let t = p.held ++ b in
     let q = passed_over n p in
@@ -29,12 +31,13 @@ rest_skip n p b h f inside free =
     let c = is_cut p t in
     let bounds = pass_bounds n p h inside in
     let cut = cut_after n p b bounds.0 bounds.1 in
-    let before = later_rows p t p.standing c (take n (readable p) ++ left n p b) refl refl (seen_before n p b) in
-    let after = later_rows q u p.standing c (left n p b) refl cut (seen_after n p b h inside) in
+    let before = behind_rows p t p.standing c (take n (readable p) ++ left n p b) refl refl (seen_before n p b) in
+    let after = behind_rows q u p.standing c (left n p b) refl cut (seen_after n p b h inside) in
     record {
-      later = ap but_comment (after ∙ sym (before ∙ ap (filter counts) (following_front p.standing p.line c (take n (readable p)) (left n p b) f free)));
+      lines = ap but_comment (after ∙ sym (before ∙ ap (filter counts) (following_front p.standing p.line c (take n (readable p)) (left n p b) f free)));
       cut = cut;
       last = last_free n p b h inside free;
+      passed = passed_held n p q b bounds.0 refl;
     }
 
 -- the last line is the same behind a line feed
@@ -55,31 +58,32 @@ unfolding is_cut
 cut_past n p b here bound = cut_after n p b here bound
 
 -- the lines to come behind a line feed
-later_past : (n : ℕ) (p : Place) (b : List ℕ) → p.passed ≤ most_bytes → n ≤ length (readable p)
-    → later (past_line n p) (drop n p.held ++ b) ≡ filter counts (rows (p.line + 1) (is_cut p (p.held ++ b)) (left n p b))
-later_past n p b h inside =
+behind_past : (n : ℕ) (p : Place) (b : List ℕ) → p.passed ≤ most_bytes → n ≤ length (readable p)
+    → lines_behind (past_line n p) (drop n p.held ++ b) ≡ filter counts (rows (p.line + 1) (is_cut p (p.held ++ b)) (left n p b))
+behind_past n p b h inside =
     let bounds = pass_bounds n p h inside in
-    later_rows (past_line n p) (drop n p.held ++ b) Start (is_cut p (p.held ++ b)) (left n p b) refl (cut_past n p b bounds.0 bounds.1) (seen_after n p b h inside)
+    behind_rows (past_line n p) (drop n p.held ++ b) Start (is_cut p (p.held ++ b)) (left n p b) refl (cut_past n p b bounds.0 bounds.1) (seen_after n p b h inside)
 
 pub line_skip : (n : ℕ) (p : Place) (b : List ℕ) (d : ℕ) → p.passed ≤ most_bytes → same_standing p.standing Start ≡ false → n < length (readable p) → Free is_line_feed (take n (readable p)) → is_line_feed (get_or (readable p) n d) ≡ true
-    → SameContent p (p.held ++ b) (past_line (n + 1) p) (drop (n + 1) p.held ++ b)
+    → SameBehind p (p.held ++ b) (past_line (n + 1) p) (drop (n + 1) p.held ++ b)
 line_skip n p b d h f inside free e =
     let t = p.held ++ b in
     let c = is_cut p t in
     let y = get_or (readable p) n d in
     let more : n + 1 ≤ length (readable p) = omega arith in
     let bounds = pass_bounds (n + 1) p h more in
-    let before = later_rows p t p.standing c (take n (readable p) ++ (y ∷ left (n + 1) p b)) refl refl (seen_at n p b d inside) in
+    let before = behind_rows p t p.standing c (take n (readable p) ++ (y ∷ left (n + 1) p b)) refl refl (seen_at n p b d inside) in
     record {
-      later = ap but_comment (later_past (n + 1) p b h more ∙ sym (before ∙ following_end p.standing p.line c (take n (readable p)) y (left (n + 1) p b) f free e));
+      lines = ap but_comment (behind_past (n + 1) p b h more ∙ sym (before ∙ following_end p.standing p.line c (take n (readable p)) y (left (n + 1) p b) f free e));
       cut = cut_past (n + 1) p b bounds.0 bounds.1;
       last = last_after n p b d h inside free e;
+      passed = passed_held (n + 1) p (past_line (n + 1) p) b bounds.0 refl;
     }
 
 -- ---- from a line's beginning
 
-pub blanks_skip : (p : Place) (b : List ℕ) → p.passed ≤ most_bytes → SameContent p (p.held ++ b) (looked p) (drop (blanks p) p.held ++ b)
-blanks_skip p b h = let same = looked_later p b h in record { later = ap but_comment same.later; cut = same.cut; last = same.last }
+pub blanks_skip : (p : Place) (b : List ℕ) → p.passed ≤ most_bytes → SameBehind p (p.held ++ b) (looked p) (drop (blanks p) p.held ++ b)
+blanks_skip p b h = let same = looked_later p b h in record { lines = ap but_comment same.lines; cut = same.cut; last = same.last; passed = same.passed }
 
 -- blanks alone are no content
 bare_content : (p : Place) → has_content (words (take (blanks p) (readable p))) ≡ false
@@ -88,7 +92,7 @@ bare_content p =
     ∙ ap has_content (words_blanks (take (blanks p) (readable p)) [] (runs_prefix is_blank (readable p)) ∙ words_nil)
 
 pub bare_skip : (p : Place) (b : List ℕ) (d : ℕ) → p.passed ≤ most_bytes → p.standing ≡ Start → blanks p < length (readable p) → is_line_feed (get_or (readable p) (blanks p) d) ≡ true
-    → SameContent p (p.held ++ b) (past_line (blanks p + 1) p) (drop (blanks p + 1) p.held ++ b)
+    → SameBehind p (p.held ++ b) (past_line (blanks p + 1) p) (drop (blanks p + 1) p.held ++ b)
 bare_skip p b d h f inside e =
     let n = blanks p in
     let t = p.held ++ b in
@@ -97,12 +101,13 @@ bare_skip p b d h f inside e =
     let r = left (n + 1) p b in
     let more : n + 1 ≤ length (readable p) = omega arith in
     let bounds = pass_bounds (n + 1) p h more in
-    let before : later p t ≡ filter counts (line_of p.line false s ∷ rows (p.line + 1) c r) =
-    later_rows p t Start c (s ++ (get_or (readable p) n d ∷ r)) f refl (seen_at n p b d inside) ∙ ap (filter counts) (rows_end p.line c s (get_or (readable p) n d) r (free_blanks p) e) in
+    let before : lines_behind p t ≡ filter counts (line_of p.line false s ∷ rows (p.line + 1) c r) =
+    behind_rows p t Start c (s ++ (get_or (readable p) n d ∷ r)) f refl (seen_at n p b d inside) ∙ ap (filter counts) (rows_end p.line c s (get_or (readable p) n d) r (free_blanks p) e) in
     record {
-      later = ap but_comment (later_past (n + 1) p b h more ∙ sym (before ∙ uncounted (line_of p.line false s) (rows (p.line + 1) c r) (bare_content p) refl));
+      lines = ap but_comment (behind_past (n + 1) p b h more ∙ sym (before ∙ uncounted (line_of p.line false s) (rows (p.line + 1) c r) (bare_content p) refl));
       cut = cut_past (n + 1) p b bounds.0 bounds.1;
       last = last_after n p b d h inside (free_blanks p) e;
+      passed = passed_held (n + 1) p (past_line (n + 1) p) b bounds.0 refl;
     }
 
 -- the lines from a line's beginning on, where a byte stands behind the blanks
@@ -135,14 +140,14 @@ comment_content m c y r e =
 
 -- the place behind the sign of a comment
 abbrev pub in_comment_at : ℕ → Place → Place
-in_comment_at n p = record (passed_over n p) { standing = Comment }
+in_comment_at n p = record (passed_over n p) { standing = Comment; fresh = false }
 
 cut_in_comment : (n : ℕ) (p : Place) (b : List ℕ) → n ≤ length p.held → p.passed + n ≤ most_bytes → is_cut (in_comment_at n p) (drop n p.held ++ b) ≡ is_cut p (p.held ++ b)
 unfolding is_cut
 cut_in_comment n p b here bound = cut_after n p b here bound
 
 pub comment_skip : (p : Place) (b : List ℕ) (d : ℕ) → p.passed ≤ most_bytes → p.standing ≡ Start → blanks p < length (readable p) → get_or (readable p) (blanks p) d ≡ 99
-    → SameContent p (p.held ++ b) (in_comment_at (blanks p + 1) p) (drop (blanks p + 1) p.held ++ b)
+    → SameBehind p (p.held ++ b) (in_comment_at (blanks p + 1) p) (drop (blanks p + 1) p.held ++ b)
 comment_skip p b d h f inside e =
     let n = blanks p in
     let t = p.held ++ b in
@@ -154,12 +159,13 @@ comment_skip p b d h f inside e =
     let more : n + 1 ≤ length (readable p) = omega arith in
     let bounds = pass_bounds (n + 1) p h more in
     let seen = seen_after (n + 1) p b h more in
-    let before : later p t ≡ filter counts (rows p.line c (y ∷ r)) =
-    later_is p t ∙ ap (filter counts) (following_is p t ∙ ap (λ st. following_of st (lines_from p t)) f ∙ first_lines p b d inside) in
+    let before : lines_behind p t ≡ filter counts (rows p.line c (y ∷ r)) =
+    behind_is p t ∙ ap (filter counts) (following_is p t ∙ ap (λ st. following_of st (lines_from p t)) f ∙ first_lines p b d inside) in
     let cut : is_cut q u ≡ c = cut_in_comment (n + 1) p b bounds.0 bounds.1 in
     record {
-      later = ap but_comment (later_rows q u Comment c r refl cut seen) ∙ comment_content p.line c y r e ∙ sym (ap but_comment before);
+      lines = ap but_comment (behind_rows q u Comment c r refl cut seen) ∙ comment_content p.line c y r e ∙ sym (ap but_comment before);
       cut = cut;
+      passed = passed_held (n + 1) p q b bounds.0 refl;
       last = last_is q u ∙ ap (λ l. p.line + count_by is_line_feed l) seen
           ∙ ap (λ k. p.line + k) (sym (count_free is_line_feed (y ∷ []) r (ap is_line_feed e, tt)) ∙ sym (count_free is_line_feed (take n (readable p)) (y ∷ r) (free_blanks p)))
           ∙ sym (last_is p t ∙ ap (λ l. p.line + count_by is_line_feed l) (seen_at n p b d inside));
@@ -183,7 +189,7 @@ not_c y h = by_test (y == 99) refl
 
 -- the place before the first word of a line
 abbrev pub at_content : Place → Place
-at_content p = record (looked p) { standing = Content }
+at_content p = record (looked p) { standing = Content; fresh = true }
 
 cut_at_content : (p : Place) (b : List ℕ) → p.passed ≤ most_bytes → is_cut (at_content p) (drop (blanks p) p.held ++ b) ≡ is_cut p (p.held ++ b)
 unfolding is_cut
@@ -217,7 +223,17 @@ content_enters p b d h f inside no_feed no_c =
           ∙ content_at_word (bare_line p.line) p.line c y r word ∙ not_c y no_c;
       cut = cut_at_content p b h;
       last = last_at_content p b h;
+      passed = passed_held n p q b (looked_bounds p h).0 refl;
     }
+
+-- it begins there with its content
+pub begins_here : (p : Place) (d : ℕ) → p.passed ≤ most_bytes → blanks p < length (readable p) → get_or (readable p) (blanks p) d ≢ 10 → get_or (readable p) (blanks p) d ≢ 99
+    → begins_content (readable (looked p)) ≡ true
+begins_here p d h inside no_feed no_c =
+    let y = get_or (readable p) (blanks p) d in
+    let word : is_word_byte y ≡ true =
+    ap (λ k. not (k || is_line_feed y)) (prefix_len_stops is_blank (readable p) d inside) ∙ ap not (not_ten y no_feed) in
+    ap begins_content (looked_readable p h ∙ drop_more (readable p) (blanks p) d inside) ∙ ap (λ k. k && not (nat_eq y 99)) word ∙ not_c y no_c
 
 -- ---- where no byte is left to read
 

@@ -1,14 +1,16 @@
 -- What two places of one stream have in common, where its bytes are told.
-use Rattle.std.proofs.Common.{◌≡◌, ℕ, ◌≤◌, true, false, List, [], ◌++◌, drop, if◌then◌else◌, Option, Some, None, IfSome, refl, sym, ap, ◌∙◌, subst}
+use Rattle.std.proofs.Common.{◌≡◌, ℕ, ◌≤◌, true, false, List, [], ◌++◌, drop, if◌then◌else◌, Option, Some, None, IfSome, Ok, refl, sym, ap, ◌∙◌, subst, add-zero}
 use Rattle.std.specs.Io.KnownBytes.{Keeps}
-use Rattle.session_rules.specs.Lines.{is_nil, most_bytes}
+use Rattle.session_rules.specs.Lines.{Line, is_nil, most_bytes}
 use Rattle.slice_tokens.specs.declared.window.Standing.{Standing}
 use Rattle.slice_tokens.specs.declared.window.Standing.TheVariants.{Start, Content, Comment}
-use Rattle.slice_tokens.specs.Place.{Place, WhereTold, ahead, present, following, later, is_cut, last_line}
+use Rattle.std.specs.Borrow.{Bor}
+use Rattle.slice_tokens.specs.declared.token.Token.TheVariants.{Word}
+use Rattle.slice_tokens.specs.Place.{Place, WhereTold, ahead, present, following, lines_behind, is_cut, last_line}
 use Rattle.slice_tokens.specs.Due.{due, due_end}
-use Rattle.slice_tokens.specs.Calls.{Moves, SameLater, begins_line_feed, stands_in_content, at_line_end}
-use Rattle.slice_tokens.specs.Held.{Stays, Same, readable, blanks}
-use Rattle.slice_tokens.proofs.Places.{looked, looked_same, present_bare}
+use Rattle.slice_tokens.specs.Calls.{Moves, SameLater, SameLines, LeavesLines, without_first, begins_line_feed, stands_in_content, at_line_end}
+use Rattle.slice_tokens.specs.Held.{Stays, Same, Next, readable, blanks}
+use Rattle.slice_tokens.proofs.Places.{passed_refl, passed_trans, later_same, looked, looked_same, present_bare}
 
 -- ---- one call after the other
 
@@ -38,10 +40,10 @@ told_step (Some t) (Some x) p q P Q R e h f g =
 -- ---- the same lines
 
 pub later_refl : (p : Place) (t : List ℕ) → SameLater p t p t
-later_refl p t = record { later = refl; cut = refl; last = refl }
+later_refl p t = record { lines = refl; cut = refl; last = refl; passed = passed_refl p t }
 
 pub later_trans : (p q r : Place) (t u v : List ℕ) → SameLater p t q u → SameLater q u r v → SameLater p t r v
-later_trans p q r t u v h k = record { later = k.later ∙ h.later; cut = k.cut ∙ h.cut; last = k.last ∙ h.last }
+later_trans p q r t u v h k = record { lines = k.lines ∙ h.lines; cut = k.cut ∙ h.cut; last = k.last ∙ h.last; passed = passed_trans p q r t u v h.passed k.passed }
 
 pub same_refl : (p : Place) (t : List ℕ) → Same p t p t
 same_refl p t = record { present = refl; behind = later_refl p t }
@@ -49,14 +51,33 @@ same_refl p t = record { present = refl; behind = later_refl p t }
 pub same_trans : (p q r : Place) (t u v : List ℕ) → Same p t q u → Same q u r v → Same p t r v
 same_trans p q r t u v h k = record { present = k.present ∙ h.present; behind = later_trans p q r t u v h.behind k.behind }
 
+-- where the window stands as it did in its line, all that was due still is
+pub same_lines : (p q : Place) (t u : List ℕ) → q.fresh ≡ p.fresh → Same p t q u → SameLines p t q u
+same_lines p q t u e h = record { present = h.present; later = later_same p q t u e h.present h.behind.lines; behind = h.behind }
+
+pub told_lines : (a b : Option (List ℕ)) (p q : Place) (Q : List ℕ → Type 0) → q.fresh ≡ p.fresh
+    → WhereTold a b (λ t u. Same p t q u × Q u) → WhereTold a b (λ t u. SameLines p t q u × Q u)
+told_lines a b p q Q e h = told_weaker a b (λ t u. Same p t q u × Q u) (λ t u. SameLines p t q u × Q u) (λ t u k. (same_lines p q t u e k.0, k.1)) h
+
+-- a word was taken behind that
+pub told_word : (a b c : Option (List ℕ)) (p m q : Place) (word : Bor (List ℕ)) (Q : List ℕ → Type 0)
+    → WhereTold a b (λ t u. SameLines p t m u × Q u) → WhereTold b c (λ u v. Next m u q v) → WhereTold a c (λ t v. LeavesLines (Ok (Word word)) p t q v)
+told_word None b c p m q word Q h k = tt
+told_word (Some t) None c p m q word Q h k = absurd h
+told_word (Some t) (Some u) None p m q word Q h k = absurd k
+told_word (Some t) (Some u) (Some v) p m q word Q h k = record {
+  present = k.present ∙ ap (λ (l : Line). let n : Line = record l { words = without_first l.words } in n) h.0.present;
+  behind = later_trans p m q t u v h.0.behind k.behind;
+}
+
 -- a read changes nothing of the lines to come
 pub present_stays : (q r : Place) (u : List ℕ) → Stays q r → present r u ≡ present q u
 unfolding present
 present_stays q r u k = rw (k.standing, k.line, k.passed)
 
 pub later_stays : (q r : Place) (u : List ℕ) → Stays q r → SameLater q u r u
-unfolding later following is_cut last_line
-later_stays q r u k = record { later = rw (k.standing, k.line, k.passed); cut = rw k.passed; last = rw (k.line, k.passed) }
+unfolding lines_behind following is_cut last_line
+later_stays q r u k = record { lines = rw (k.standing, k.line, k.passed); cut = rw k.passed; last = rw (k.line, k.passed); passed = record { front = []; whole = refl; count = k.passed ∙ sym (add-zero q.passed) } }
 
 pub same_stays : (s q r : Place) (t u : List ℕ) → Stays q r → Same s t q u → Same s t r u
 same_stays s q r t u k h = same_trans s q r t u u h (record { present = present_stays q r u k; behind = later_stays q r u k })
@@ -85,6 +106,7 @@ end_bare p n = ap (λ q. if q then (if is_nil p.held then p.ended else begins_li
 pub record Finding {S : Type 0} (p q : Place) (x y : S) (a b : Option (List ℕ)) (m n : ℕ) : Type 0 where
   pub standing : q.standing ≡ Content
   pub line : q.line ≡ p.line
+  pub fresh : q.fresh ≡ p.fresh
   pub moves : Moves p q
   pub again : at_line_end p ≡ true → (q ≡ p) × (y ≡ x)
   pub ended : p.ended ≡ true → y ≡ x

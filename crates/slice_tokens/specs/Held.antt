@@ -1,11 +1,11 @@
 -- What the single steps of a window find in the bytes that it holds.
-use Rattle.std.specs.Prelude.{◌≡◌, ℕ, zero, suc, ◌+◌, ◌<◌, ◌≤◌, ⊤, Bool, true, false, not, ◌||◌, List, ◌∷◌, ◌++◌, length, take, drop, Ok, Err, MatchBool}
+use Rattle.std.specs.Prelude.{◌≡◌, ℕ, zero, suc, ◌+◌, ◌<◌, ◌≤◌, ⊤, Bool, true, false, not, ◌||◌, ◌&&◌, nat_eq, List, ◌∷◌, ◌++◌, length, take, drop, Ok, Err, MatchBool}
 use Rattle.std.specs.List.{prefix_len}
 use Rattle.std.specs.declared.result.Result.{Result}
 use Rattle.session_rules.specs.Lines.{is_blank, is_line_feed, has_content}
-use Rattle.slice_tokens.specs.Place.{Place, room, present, following, is_cut, last_line}
+use Rattle.slice_tokens.specs.Place.{Place, room, present, following, lines_behind, is_cut, last_line}
 use Rattle.slice_tokens.specs.Due.{due, due_word, due_end, due_long, due_cut}
-use Rattle.slice_tokens.specs.Calls.{Moves, SameLater, SameContent, without_first, at_line_end}
+use Rattle.slice_tokens.specs.Calls.{Moves, Passed, SameLater, but_comment, without_first, at_line_end}
 use Rattle.slice_tokens.specs.declared.window.Standing.{Standing}
 use Rattle.slice_tokens.specs.declared.window.Standing.TheVariants.{Start, Content, Comment}
 use Rattle.slice_tokens.specs.declared.window.Look.{Look}
@@ -25,13 +25,13 @@ standing_at standing place = same_standing place.standing standing
 
 -- ---- Places
 
--- the same place after n bytes
+-- the same place after n bytes; where these are none, no word was taken
 abbrev pub passed_over : ℕ → Place → Place
-passed_over n place = record place { held = drop n place.held; passed = place.passed + n }
+passed_over n place = record place { held = drop n place.held; passed = place.passed + n; fresh = nat_eq n 0 && place.fresh }
 
 -- the place after n bytes, of which the last ends the line
 abbrev pub past_line : ℕ → Place → Place
-past_line n place = record place { held = drop n place.held; passed = place.passed + n; line = place.line + 1; standing = Start }
+past_line n place = record place { held = drop n place.held; passed = place.passed + n; line = place.line + 1; standing = Start; fresh = false }
 
 -- a read left the place as it is, but for what is held and for the end of the stream
 pub record Stays (old new : Place) : Type 0 where
@@ -39,6 +39,7 @@ pub record Stays (old new : Place) : Type 0 where
   pub passed : new.passed ≡ old.passed
   pub line : new.line ≡ old.line
   pub standing : new.standing ≡ old.standing
+  pub fresh : new.fresh ≡ old.fresh
 
 -- a read gave bytes, or met the end
 abbrev pub Grows : Place → Place → Type 0
@@ -89,7 +90,8 @@ Holds place (Err Length) = (room place ≤ 32) × (room place < length place.hel
 pub record Takes (old new : Place) (result : Result ℕ TokenFault) : Type 0 where
   pub moves : Moves old new
   pub line : new.line ≡ old.line
-  pub standing : new.standing ≡ Content
+  pub standing : new.standing ≡ old.standing
+  pub fresh : new.fresh ≡ old.fresh
   pub holds : Holds new result
 
 -- the same lines from two places
@@ -104,10 +106,19 @@ pub record Next (old : Place) (bytes : List ℕ) (new : Place) (rest : List ℕ)
 
 -- ---- The next line
 
+-- two places of one stream with the same lines behind the present one, but for the words of a comment that is passed over
+-- in part
+pub record SameBehind (old : Place) (bytes : List ℕ) (new : Place) (rest : List ℕ) : Type 0 where
+  pub lines : but_comment (lines_behind new rest) ≡ but_comment (lines_behind old bytes)
+  pub cut : is_cut new rest ≡ is_cut old bytes
+  pub last : last_line new rest ≡ last_line old bytes
+  pub passed : Passed old bytes new rest
+
 -- what is passed over leaves the same content, whatever is behind what is held
 pub record Skips (old new : Place) : Type 0 where
   pub passed : old.passed < new.passed
-  pub content : (b : List ℕ) → SameContent old (old.held ++ b) new (new.held ++ b)
+  pub fresh : new.fresh ≡ false
+  pub content : (b : List ℕ) → SameBehind old (old.held ++ b) new (new.held ++ b)
 
 -- the window stands before the first word of the line that came first
 pub record EntersLine (old : Place) (bytes : List ℕ) (new : Place) (rest : List ℕ) : Type 0 where
@@ -115,7 +126,9 @@ pub record EntersLine (old : Place) (bytes : List ℕ) (new : Place) (rest : Lis
   pub content : has_content (present new rest).words ≡ true
   pub cut : is_cut new rest ≡ is_cut old bytes
   pub last : last_line new rest ≡ last_line old bytes
+  pub passed : Passed old bytes new rest
 
 pub record Enters (old new : Place) : Type 0 where
   pub standing : new.standing ≡ Content
+  pub fresh : new.fresh ≡ true
   pub lines : (b : List ℕ) → EntersLine old (old.held ++ b) new (new.held ++ b)

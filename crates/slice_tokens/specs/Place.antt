@@ -1,31 +1,46 @@
 -- Where a window stands in its stream, and what is to come there.
-use Rattle.std.specs.Prelude.{◌≡◌, ℕ, ◌+◌, ◌-◌, ◌≤◌, ⊤, Bool, false, nat_lt, count_by, List, [], ◌∷◌, ◌++◌, length, take, filter, Option, Some, None, if◌then◌else◌}
+use Rattle.std.specs.Prelude.{◌≡◌, ℕ, ◌+◌, ◌-◌, ◌≤◌, ⊤, Bool, true, false, not, ◌&&◌, ◌||◌, nat_eq, nat_lt, count_by, List, [], ◌∷◌, ◌++◌, length, take, filter, Option, Some, None, if◌then◌else◌}
 use Rattle.std.specs.Option.{option_map}
-use Rattle.session_rules.specs.Lines.{Line, all_lines, counts, is_line_feed, most_bytes}
+use Rattle.session_rules.specs.Lines.{Line, all_lines, counts, is_blank, is_line_feed, most_bytes}
 use Rattle.slice_tokens.specs.declared.window.TheConstants.{SIZE}
 use Rattle.slice_tokens.specs.declared.window.Standing.{Standing}
 use Rattle.slice_tokens.specs.declared.window.Standing.TheVariants.{Start, Content, Comment}
 
 -- What contracts see of a window: the bytes that it holds and hasn't passed over, whether it has met the end of the
--- stream, how many bytes it has passed over, the number of its line, and where in that line it stands.
+-- stream, how many bytes it has passed over, the number of its line, where in that line it stands, and whether that is the
+-- first word of a content line, of which no word was taken yet.
 pub record Place : Type 0 where
   pub held : List ℕ
   pub ended : Bool
   pub passed : ℕ
   pub line : ℕ
   pub standing : Standing
+  pub fresh : Bool
 
--- what holds of every window's numbers, where its buffer has this size
-pub record IsSound (start end size passed line : ℕ) : Type 0 where
+-- whether a window stands where it entered a content line: it has passed over as many bytes as then
+abbrev pub is_fresh : Standing → ℕ → ℕ → Bool
+is_fresh Content passed first = nat_eq passed first
+is_fresh _ passed first = false
+
+-- whether some bytes begin with a word that is content
+abbrev pub begins_content : List ℕ → Bool
+begins_content [] = false
+begins_content (b ∷ bs) = not (is_blank b || is_line_feed b) && not (nat_eq b 99)
+
+-- what holds of every window: of its numbers, where its buffer has this size and it had passed over `first` bytes when it
+-- entered its line, and of the bytes that it holds
+pub record IsSound (start end size passed line first : ℕ) (standing : Standing) (held : List ℕ) : Type 0 where
   pub ordered : start ≤ end
   pub within : end ≤ size
   pub full : size ≡ SIZE
   pub bounded : passed ≤ most_bytes
   pub counted : line ≤ passed + 1
+  pub entered : first ≤ passed
+  pub begins : is_fresh standing passed first ≡ true → begins_content (take (most_bytes - passed) held) ≡ true
 
 -- a window that has read nothing
 abbrev pub at_start : Place
-at_start = record { held = []; ended = false; passed = 0; line = 1; standing = Start }
+at_start = record { held = []; ended = false; passed = 0; line = 1; standing = Start; fresh = false }
 
 -- ---- Bytes to come
 
@@ -89,8 +104,12 @@ unfoldable pub following : Place → List ℕ → List Line
 following place bytes = following_of place.standing (lines_from place bytes)
 
 -- those of them that count, as in the lines of the whole stream
+unfoldable pub lines_behind : Place → List ℕ → List Line
+lines_behind place bytes = filter counts (following place bytes)
+
+-- the lines that are due: those behind the present one, and before them the present one too while no word of it was taken
 unfoldable pub later : Place → List ℕ → List Line
-later place bytes = filter counts (following place bytes)
+later place bytes = if place.fresh then present place bytes ∷ lines_behind place bytes else lines_behind place bytes
 
 -- whether a byte comes that is beyond the bound
 unfoldable pub is_cut : Place → List ℕ → Bool

@@ -135,8 +135,8 @@ fn a_hundred_thousand_bytes_are_one_long_word(rt: HostRuntime) -> Result<(), Fai
     assert_eq!(rt; window.next_line(&mut source), Ok(true));
     for _ in 0..2 {
         assert_eq!(rt; window.next(&mut source), Err(TokenFault::LongWord));
+        assert_eq!(rt; window.next_line(&mut source), Ok(true));
     }
-    assert_eq!(rt; window.next_line(&mut source), Ok(false));
     assert_eq!(rt; window.line(), 1);
     Ok(())
 }
@@ -167,6 +167,76 @@ fn reading_goes_on_after_a_read_that_failed(rt: HostRuntime) -> Result<(), Fail>
     }
     assert_eq!(rt; window.next_line(&mut source), Ok(false));
     assert_eq!(rt; window.line(), 3);
+    Ok(())
+}
+
+#[test]
+fn a_word_is_seen_before_it_is_taken(rt: HostRuntime) -> Result<(), Fail> {
+    let alloc = rt.alloc();
+    let text = b"c x\n i 12\n123456789012345678901234567890123 0\nq";
+    for most in [1, 2, 65_536] {
+        let mut source = in_pieces(alloc, text, most)?;
+        let mut window = Window::new(alloc)?;
+        assert_eq!(rt; window.peek(&mut source), Ok(Token::LineEnd));
+        assert_eq!(rt; window.next_line(&mut source), Ok(true));
+        for word in [b"i".as_slice(), b"12".as_slice()] {
+            for _ in 0..2 {
+                assert_eq!(rt; window.peek(&mut source), Ok(Token::Word(word)));
+            }
+            assert_eq!(rt; window.next(&mut source), Ok(Token::Word(word)));
+        }
+        assert_eq!(rt; window.peek(&mut source), Ok(Token::LineEnd));
+        assert_eq!(rt; window.next(&mut source), Ok(Token::LineEnd));
+        assert_eq!(rt; window.next_line(&mut source), Ok(true));
+        for _ in 0..2 {
+            assert_eq!(rt; window.peek(&mut source), Err(TokenFault::LongWord));
+            assert_eq!(rt; window.next_line(&mut source), Ok(true));
+            assert_eq!(rt; window.line(), 3);
+        }
+    }
+    Ok(())
+}
+
+#[test]
+fn a_line_is_due_until_its_first_word_is_taken(rt: HostRuntime) -> Result<(), Fail> {
+    let alloc = rt.alloc();
+    for most in [1, 2, 65_536] {
+        let mut source = in_pieces(alloc, b"\n  i 1\nc x\nq 2", most)?;
+        let mut window = Window::new(alloc)?;
+        for _ in 0..3 {
+            assert_eq!(rt; window.next_line(&mut source), Ok(true));
+            assert_eq!(rt; window.line(), 2);
+            assert_eq!(rt; window.peek(&mut source), Ok(Token::Word(b"i")));
+        }
+        assert_eq!(rt; window.next(&mut source), Ok(Token::Word(b"i")));
+        assert_eq!(rt; window.peek(&mut source), Ok(Token::Word(b"1")));
+        assert_eq!(rt; window.next_line(&mut source), Ok(true));
+        assert_eq!(rt; window.line(), 4);
+        for word in [b"q".as_slice(), b"2".as_slice()] {
+            assert_eq!(rt; window.peek(&mut source), Ok(Token::Word(word)));
+            assert_eq!(rt; window.next(&mut source), Ok(Token::Word(word)));
+        }
+        assert_eq!(rt; window.peek(&mut source), Ok(Token::LineEnd));
+        for _ in 0..2 {
+            assert_eq!(rt; window.next_line(&mut source), Ok(false));
+        }
+        assert_eq!(rt; window.peek(&mut source), Ok(Token::LineEnd));
+    }
+    Ok(())
+}
+
+#[test]
+fn a_word_is_seen_after_a_read_that_failed(rt: HostRuntime) -> Result<(), Fail> {
+    let alloc = rt.alloc();
+    let pieces = vec![in alloc; b"1".to_vec(alloc)?, b"2 0".to_vec(alloc)?]?;
+    let mut source = MemorySource::new(pieces, vec![in alloc; 2]?);
+    let mut window = Window::new(alloc)?;
+    assert_eq!(rt; window.next_line(&mut source), Ok(true));
+    assert_eq!(rt; window.peek(&mut source), Err(TokenFault::Read));
+    assert_eq!(rt; window.next_line(&mut source), Ok(true));
+    assert_eq!(rt; window.peek(&mut source), Ok(Token::Word(b"12")));
+    assert_eq!(rt; window.next(&mut source), Ok(Token::Word(b"12")));
+    assert_eq!(rt; window.next(&mut source), Ok(Token::Word(b"0")));
     Ok(())
 }
 

@@ -1,8 +1,12 @@
 // The window itself. What contracts see of it is its place in the stream (`Place`), and what is still to come there:
 // the present line with the words that are left of it (`present`), the members of the stream's lines behind it
-// (`later`), and the number of the last line (`last_line`). `next` takes what is due off the present line, and
-// `next_line` takes a line off the later ones. Both go by steps that look only at what the buffer holds, and between
-// them by reads, which change nothing of what is to come.
+// (`lines_behind`), and the number of the last line (`last_line`). `next` takes what is due off the present line, `peek`
+// leaves it there, and `next_line` takes a line off those behind. All go by steps that look only at what the buffer holds,
+// and between them by reads, which change nothing of what is to come.
+//
+// A line is taken with its first word. Before that `next_line` stays at the line and answers the same again, so that a caller
+// may go to a line, look at its first word, and leave the line to whoever reads it: the lines that are due (`later`) begin
+// with it still. The window knows this by its count of bytes alone: it stands where it entered the line.
 ghost use Rattle.std.specs.Prelude.{◌≡◌, ℕ, ◌+◌, ◌<◌, ◌≤◌, Bool, List, [], ◌++◌, take, length, nat_lt, IfOk, IfErr, IfSome, OnOk, OnErr, IsErrOf, min, Ok, Err, true, false, Option};
 ghost use Rattle.std.specs.Bool.{OnTrue, OnFalse};
 ghost use Rattle.std.specs.Io.BufRead.{Rests};
@@ -10,9 +14,9 @@ ghost use Rattle.std.specs.Io.KnownBytes.{Keeps};
 ghost use Rattle.std.specs.Borrow.{sem};
 ghost use Rattle.outside.specs.Faults.{Rose, HasCause};
 ghost use Rattle.session_rules.specs.Lines.{lines, end_line, most_bytes};
-ghost use Rattle.slice_tokens.specs.Place.{at_start, ahead, room, bare_line, present, later, is_cut, last_line, WhereTold};
+ghost use Rattle.slice_tokens.specs.Place.{at_start, ahead, room, begins_content, bare_line, present, later, is_cut, last_line, WhereTold};
 ghost use Rattle.slice_tokens.specs.Due.{due, due_end};
-ghost use Rattle.slice_tokens.specs.Calls.{Moves, Answers, IsLineEnd, Leaves, Halts, Reaches, at_line_end, stands_in_content};
+ghost use Rattle.slice_tokens.specs.Calls.{Moves, Begins, Answers, IsLineEnd, Leaves, SameLines, Peeks, Halts, Reaches, at_line_end, stands_in_content};
 ghost use Rattle.slice_tokens.specs.Front.{behind_space, coming, at_line_feed, IsWordFront, TakesWord};
 ghost use Rattle.slice_tokens.specs.Held.{readable, blanks, passed_over, past_line, standing_at, Stays, Grows, Looks, Finds, Takes, Same, Next, Skips, Enters};
 ghost use Rattle.slice_tokens.specs.contracts.window.Window.{the_row};
@@ -64,6 +68,8 @@ pub struct Window {
     end: usize,
     line: u64,
     passed: u64,
+    // How many bytes it had passed over when it entered its line, if that has content.
+    first: u64,
     ended: bool,
     standing: Standing,
 }
@@ -72,13 +78,13 @@ impl Model for Window {
     ghost use Rattle.std.specs.List.{slice_range};
     ghost use Rattle.std.specs.Box.{boxed_slice_items};
     ghost use Rattle.std.specs.Prelude.{length};
-    ghost use Rattle.slice_tokens.specs.Place.{Place, IsSound};
+    ghost use Rattle.slice_tokens.specs.Place.{Place, IsSound, is_fresh};
 
     ghost Value = { Place };
 
-    ghost view = { λ w. record { held = slice_range (boxed_slice_items w.buf) w.start w.end; ended = w.ended; passed = w.passed; line = w.line; standing = w.standing } };
+    ghost view = { λ w. record { held = slice_range (boxed_slice_items w.buf) w.start w.end; ended = w.ended; passed = w.passed; line = w.line; standing = w.standing; fresh = is_fresh w.standing w.passed w.first } };
 
-    ghost invariant = { λ w. IsSound w.start w.end (length (boxed_slice_items w.buf)) w.passed w.line };
+    ghost invariant = { λ w. IsSound w.start w.end (length (boxed_slice_items w.buf)) w.passed w.line w.first w.standing (slice_range (boxed_slice_items w.buf) w.start w.end) };
 }
 
 impl Window {
@@ -99,16 +105,20 @@ impl Window {
             end: 0,
             line: 1,
             passed: 0,
+            first: 0,
             ended: false,
             standing: Standing::Start,
         })
     }
 
     /// Does nothing. A caller learns from it what holds of every window: it has passed over at most 2^62 bytes, and the number
-    /// of its line is at most one more than these.
+    /// of its line is at most one more than these; it holds at most 65,536 bytes that it hasn't passed over, and before the
+    /// first word of a content line that word's first byte.
     #[inline(always)]
     pub fn recall_bounds(&self)
-        ensures { Moves self.now self.now }
+        ensures moves { Moves self.now self.now }
+        ensures held { length self.now.held ≤ 65_536 }
+        ensures begins { Begins self.now }
     {
         let _buffer = &self.buf;
     }
@@ -139,15 +149,33 @@ impl Window {
         ensures read { IsErrOf result TokenFault.Read → Rose (S.faults src.old) (S.faults src.new) }
         ensures* after { sem 𝓛 (Rests the_row self.entry (λ new. Leaves result self.old new (ahead self.old (S.left src.old)) (ahead new (S.left src.new)))) }
     {
-        self.recall_bounds();
-        if !self.is_in_content() {
-            return Ok(Token::LineEnd);
-        }
-        let count = self.find(src)?;
+        let count = self.seek(src)?;
         if count == 0 {
             return Ok(Token::LineEnd);
         }
         Ok(Token::Word(self.take(count)))
+    }
+
+    /// What `next` would answer. The window stays before the word, so that all lines and words that were to come still are,
+    /// whatever it answers; it may have read on, and passed over blanks.
+    ///
+    /// # Errors
+    ///
+    /// As `next`.
+    #[inline(always)]
+    pub fn peek<S: Source>(&mut self, src: &mut S) -> Result<Token<'_>, TokenFault>
+        ensures answer { IfSome (ahead self.old (S.left src.old)) (λ bytes. Answers (due (present self.old bytes)) result) }
+        ensures again { at_line_end self.old ≡ true → IsLineEnd result × (src.new ≡ src.old) }
+        ensures ended { self.old.ended ≡ true → src.new ≡ src.old }
+        ensures count { S.faults src.old ≤ S.faults src.new }
+        ensures read { IsErrOf result TokenFault.Read → Rose (S.faults src.old) (S.faults src.new) }
+        ensures* after { sem 𝓛 (Rests the_row self.entry (λ new. Peeks result self.old new (ahead self.old (S.left src.old)) (ahead new (S.left src.new)))) }
+    {
+        let count = self.seek(src)?;
+        if count == 0 {
+            return Ok(Token::LineEnd);
+        }
+        Ok(Token::Word(self.show(count)))
     }
 
     /// The bytes behind one space that it holds and may read. There are none where it isn't in a content line, or another
@@ -171,6 +199,7 @@ impl Window {
         ensures moves { Moves self.old self.new }
         ensures line { self.new.line ≡ self.old.line }
         ensures standing { self.new.standing ≡ self.old.standing }
+        ensures fresh { self.new.fresh ≡ false }
         ensures passed { self.old.passed + count < self.new.passed }
         ensures told { (left : Option (List ℕ)) → WhereTold (ahead self.old left) (ahead self.new left)
             (λ bytes rest. TakesWord (take count (behind_space self.old)) self.old bytes self.new rest) }
@@ -201,6 +230,7 @@ impl Window {
         ensures moves { Moves self.old self.new }
         ensures line { self.new.line ≡ self.old.line }
         ensures standing { self.new.standing ≡ self.old.standing }
+        ensures fresh { self.new.fresh ≡ false }
         ensures passed { self.old.passed + count ≤ self.new.passed }
         ensures told { (left : Option (List ℕ)) → WhereTold (ahead self.old left) (ahead self.new left)
             (λ bytes rest. TakesWord (take count (coming self.old)) self.old bytes self.new rest) }
@@ -211,12 +241,13 @@ impl Window {
 
     /// Passes over so many of these bytes, whichever words they are.
     #[inline(always)]
-    #[tactic(auto, using(crate::proofs::Front::coming_bounds))]
+    #[tactic(auto, using(crate::proofs::Front::coming_bounds, crate::proofs::Places::passed_taken))]
     pub fn pass_over(&mut self, count: usize)
         requires { count ≤ length (coming self.old) }
         ensures moves { Moves self.old self.new }
         ensures line { self.new.line ≡ self.old.line }
         ensures standing { self.new.standing ≡ self.old.standing }
+        ensures taken { self.old.fresh ≡ false → self.new.fresh ≡ false }
         ensures place { self.new ≡ passed_over count self.old }
     {
         self.recall_bounds();
@@ -236,7 +267,8 @@ impl Window {
     }
 
     /// Passes over the rest of the line and over all lines without content. True where it stands before the first word
-    /// of a content line, false at the end of the stream.
+    /// of a content line, false at the end of the stream. Where it stands there already, and no word of the line was taken, it
+    /// stays: the line is due until its first word is taken.
     ///
     /// # Errors
     ///
@@ -245,6 +277,7 @@ impl Window {
     pub fn next_line<S: Source>(&mut self, src: &mut S) -> Result<bool, TokenFault>
         ensures moves { Moves self.old self.new }
         ensures halts { Halts self.new result }
+        ensures stays { self.old.fresh ≡ true → (result ≡ Ok true) × (self.new ≡ self.old) × (src.new ≡ src.old) }
         ensures told { WhereTold (ahead self.old (S.left src.old)) (ahead self.new (S.left src.new))
             (λ bytes rest. Reaches self.old bytes self.new rest result) }
         ensures ended { self.old.ended ≡ true → src.new ≡ src.old }
@@ -252,6 +285,9 @@ impl Window {
         ensures read { IsErrOf result TokenFault.Read → Rose (S.faults src.old) (S.faults src.new) }
     {
         self.recall_bounds();
+        if self.is_fresh() {
+            return Ok(true);
+        }
         'lines: loop {
             self.fill(src)?;
             if self.readable().is_empty() {
@@ -284,6 +320,14 @@ impl Window {
         ensures { result ≡ standing_at Standing.Start self.now }
     {
         self.standing == Standing::Start
+    }
+
+    // Whether it stands where it entered a content line.
+    #[inline(always)]
+    fn is_fresh(&self) -> bool
+        ensures { result ≡ self.now.fresh }
+    {
+        self.standing == Standing::Content && self.passed == self.first
     }
 
     // How many bytes it holds.
@@ -327,10 +371,19 @@ impl Window {
         self.is_in_content() && !readable.is_empty() && readable[0] == b'\n'
     }
 
-    fn stand(&mut self, standing: Standing)
-        ensures { self.new ≡ record self.old { standing = standing } }
+    fn begin_comment(&mut self)
+        ensures { self.new ≡ record self.old { standing = Standing.Comment; fresh = false } }
     {
-        self.standing = standing;
+        self.standing = Standing::Comment;
+    }
+
+    // Enters a content line, before its first word.
+    fn begin_content(&mut self)
+        requires { begins_content (readable self.old) ≡ true }
+        ensures { self.new ≡ record self.old { standing = Standing.Content; fresh = true } }
+    {
+        self.first = self.passed;
+        self.standing = Standing::Content;
     }
 
     #[inline(always)]
@@ -368,6 +421,16 @@ impl Window {
         self.start += count;
         self.passed += count as u64;
         &self.buf[from..from + count]
+    }
+
+    // What `take` hands out, without taking it.
+    #[inline(always)]
+    fn show(&mut self, count: usize) -> &[u8]
+        requires { count ≤ length self.old.held }
+        ensures word { result.now ≡ take count self.old.held }
+        ensures* after { sem 𝓛 (Rests the_row self.entry (λ new. new ≡ self.old)) }
+    {
+        &self.buf[self.start..self.start + count]
     }
 
     // Moves what it holds to the front, and reads once more.
@@ -415,6 +478,7 @@ impl Window {
     fn look(&mut self) -> Look
         ensures moves { Moves self.old self.new }
         ensures after { self.new ≡ passed_over (blanks self.old) self.old }
+        ensures fresh { self.new.fresh ≡ self.old.fresh }
         ensures seen { Looks self.old result }
     {
         self.recall_bounds();
@@ -465,8 +529,29 @@ impl Window {
         }
     }
 
+    // Goes to the next word of the line, as `find` does; outside of content lines there is none, and it does nothing.
+    #[inline(always)]
+    fn seek<S: Source>(&mut self, src: &mut S) -> Result<usize, TokenFault>
+        ensures takes { Takes self.old self.new result }
+        ensures told { WhereTold (ahead self.old (S.left src.old)) (ahead self.new (S.left src.new))
+            (λ bytes rest. SameLines self.old bytes self.new rest × Finds self.new rest result) }
+        ensures word { IfOk result (λ n. 0 < n → WhereTold (ahead self.new (S.left src.new)) (ahead (passed_over n self.new) (S.left src.new))
+            (λ bytes rest. Next self.new bytes (passed_over n self.new) rest)) }
+        ensures again { at_line_end self.old ≡ true → (result ≡ Ok 0) × (self.new ≡ self.old) × (src.new ≡ src.old) }
+        ensures ended { self.old.ended ≡ true → src.new ≡ src.old }
+        ensures count { S.faults src.old ≤ S.faults src.new }
+        ensures read { result ≡ Err TokenFault.Read → Rose (S.faults src.old) (S.faults src.new) }
+    {
+        self.recall_bounds();
+        if !self.is_in_content() {
+            return Ok(0);
+        }
+        self.find(src)
+    }
+
     // Passes over what it holds of the rest of the line.
     fn skip(&mut self)
+        requires fresh { self.old.fresh ≡ false }
         requires within { standing_at Standing.Start self.old ≡ false }
         requires some { 0 < length (readable self.old) }
         ensures moves { Moves self.old self.new }
@@ -507,11 +592,11 @@ impl Window {
         }
         if first == b'c' {
             self.pass(count + 1);
-            self.stand(Standing::Comment);
+            self.begin_comment();
             return false;
         }
         self.pass(count);
-        self.stand(Standing::Content);
+        self.begin_content();
         true
     }
 }

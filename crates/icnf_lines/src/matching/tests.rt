@@ -188,3 +188,67 @@ fn pairs_of_lines(rt: HostRuntime) -> Result<(), Fail> {
     }
     Ok(())
 }
+
+#[test]
+fn runs_of_lines(rt: HostRuntime) -> Result<(), Fail> {
+    let alloc = rt.alloc();
+    let assumed = [lit(&rt, 1), lit(&rt, 3)];
+    let proofs = [
+        "m 1 -2 0",
+        "m 1 -2 0",
+        "m 1 2 0\nq 3 0",
+        "m 1 2 0\nq 3 0",
+        "m 1 2 0",
+        "m 1 2 0\nq 3 0",
+        "m 1 2 0\nq 3 0",
+        "m 1 2 0\nq 3 0",
+        "u 1 3 0",
+        "u 1 0",
+        "u 1 0\nm 2 0",
+        "m 1 0\ni 1 0",
+        "m 1 0",
+        "m 1 0\nq 0",
+        "s UNKNOWN",
+    ];
+    let interactions = [
+        "v 1 0\nv -2 1 0\nv 0\n",
+        "v 1 0\nc 2\n\nv -2 2 0",
+        "v 1 0\nv 2 0\nq 3 0",
+        "v 1 0\nq 4 0",
+        "c nothing\n",
+        "q 3 0",
+        "v 1 0\nm 1 2 0",
+        "m 1 0\nv 1 0",
+        "f 3 0\nf 1 1 0",
+        "f 1 0\nf 3 0",
+        "f 1 0\nv 1 0",
+        "f 1 0",
+        "v 1 0\nv 1 x 0",
+        "vv 1 0",
+        "v 1 0",
+    ];
+    let wanted = [
+        Ok(Match::Agrees),
+        Ok(Match::Differs(Rule::ModelPart(lit(&rt, 2)))),
+        Ok(Match::Agrees),
+        Ok(Match::Differs(Rule::Content)),
+        Ok(Match::Agrees),
+        Ok(Match::Agrees),
+        Ok(Match::Differs(Rule::Kind)),
+        Ok(Match::Differs(Rule::Kind)),
+        Ok(Match::Agrees),
+        Ok(Match::Differs(Rule::FailedPart(lit(&rt, 3)))),
+        Ok(Match::Differs(Rule::ModelPart(lit(&rt, 1)))),
+        Ok(Match::Differs(Rule::Kind)),
+        Err(MatchFault::Syntax(Rule::Number)),
+        Err(MatchFault::Syntax(Rule::Letter)),
+        Ok(Match::Differs(Rule::Kind)),
+    ];
+    for i in 0..15usize {
+        for most in [1, 1_000] {
+            let answer = matched(alloc, proofs[i], interactions[i], &assumed, most)?;
+            assert_eq!(rt; answer, Some(wanted[i]), "run {i}, pieces of {most}");
+        }
+    }
+    Ok(())
+}

@@ -57,13 +57,13 @@ fn long_input(alloc: Global, count: u32) -> Result<Vec<u8>, AllocError> {
 fn lines_are_read_as_they_are_written(rt: HostRuntime) -> Result<(), Fail> {
     let alloc = rt.alloc();
     let text =
-        "p icnf\ni 1 -2 0\nc a comment\n\n i\t0\r\nq -2 16777215 -2 0\ns SATISFIABLE\nm -1 2 0\ns UNSATISFIABLE\nu -2 0\ns UNKNOWN";
+        "p icnf\ni 1 -2 0\nc a comment\n\n i\t0\r\nq -2 16777215 -2 0\ns SATISFIABLE\nm -1 2 0\ns UNSATISFIABLE\nu -2 0\ns UNKNOWN\nv -1 0\nf\t-2  0";
     let wanted =
-        "i 1 -2 0\ni 0\nq -2 16777215 -2 0\ns SATISFIABLE\nm -1 2 0\ns UNSATISFIABLE\nu -2 0\ns UNKNOWN\n";
+        "i 1 -2 0\ni 0\nq -2 16777215 -2 0\ns SATISFIABLE\nm -1 2 0\ns UNSATISFIABLE\nu -2 0\ns UNKNOWN\nv -1 0\nf -2 0\n";
     for most in [1, 1_000] {
         let mut sink = MemorySink::new(alloc, 7, Vec::new(alloc));
         let answer = read_again(alloc, text.as_bytes(), most, &mut sink)?;
-        assert_eq!(rt; answer, (None, 11), "{most}");
+        assert_eq!(rt; answer, (None, 13), "{most}");
         assert_eq!(rt; sink.bytes(), wanted.as_bytes(), "{most}");
         let mut line = long_input(alloc, 20_000)?;
         let mut text = b"p icnf\n".to_vec(alloc)?;
@@ -94,6 +94,9 @@ fn broken_lines_are_refused_in_single_bytes(rt: HostRuntime) -> Result<(), Fail>
         ("i 1", Rule::Unclosed),
         ("m -1 2", Rule::Unclosed),
         ("u", Rule::Unclosed),
+        ("v 1", Rule::Unclosed),
+        ("f 1 0 0", Rule::Excess),
+        ("v 1 x 0", Rule::Number),
         ("i 1 0 0", Rule::Excess),
         ("s SATISFIABLE 0", Rule::Excess),
         ("m 0 111111111111111111111111111111111", Rule::Excess),

@@ -48,3 +48,17 @@ fn each_event_has_its_line(rt: HostRuntime) -> Result<(), Fail> {
     assert_eq!(rt; sink.bytes(), text.as_slice());
     Ok(())
 }
+
+#[test]
+fn parts_of_answers_have_their_lines(rt: HostRuntime) -> Result<(), Fail> {
+    let alloc = rt.alloc();
+    let mut sink = MemorySink::new(alloc, 7, Vec::new(alloc));
+    let mut room = 100;
+    let values = Event::Values(lits(&rt, alloc, &[2, -1])?);
+    let failed = Event::Failed(lits(&rt, alloc, &[])?);
+    assert_eq!(rt; write_line(&mut sink, &mut room, &values), Ok(()));
+    assert_eq!(rt; write_line(&mut sink, &mut room, &failed), Ok(()));
+    assert_eq!(rt; sink.bytes(), b"v 2 -1 0\nf 0\n".as_slice());
+    assert_eq!(rt; room, 87);
+    Ok(())
+}

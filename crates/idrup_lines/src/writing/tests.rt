@@ -22,10 +22,7 @@ fn each_step_has_its_line(rt: HostRuntime) -> Result<(), Fail> {
     let alloc = rt.alloc();
     let mut sink = MemorySink::new(alloc, 7, Vec::new(alloc));
     let mut room = 1_000;
-    assert_eq!(rt; write_header(&mut sink, &mut room, b"idrup"), Ok(()));
     let steps = [
-        Step::Event(Event::Input(lits(&rt, alloc, &[1, -2])?)),
-        Step::Event(Event::Status(StatusWord::Unknown)),
         Step::Lemma(lits(&rt, alloc, &[10, -9])?),
         Step::Weaken(lits(&rt, alloc, &[1, -2])?),
         Step::Restore(lits(&rt, alloc, &[-2, 1])?),
@@ -34,12 +31,28 @@ fn each_step_has_its_line(rt: HostRuntime) -> Result<(), Fail> {
     for step in &steps {
         assert_eq!(rt; write_line(&mut sink, &mut room, step), Ok(()));
     }
+    let text = b"l 10 -9 0\nw 1 -2 0\nr -2 1 0\nd 0\n";
+    assert_eq!(rt; sink.bytes(), text.as_slice());
+    assert_eq!(rt; room, 1_000 - text.len() as u64);
+    Ok(())
+}
+
+#[test]
+fn headers_events_and_single_lines_are_written(rt: HostRuntime) -> Result<(), Fail> {
+    let alloc = rt.alloc();
+    let mut sink = MemorySink::new(alloc, 7, Vec::new(alloc));
+    let mut room = 1_000;
+    let input = Step::Event(Event::Input(lits(&rt, alloc, &[1, -2])?));
+    let status = Step::Event(Event::Status(StatusWord::Unknown));
     let lemma = lits(&rt, alloc, &[5])?;
+    assert_eq!(rt; write_header(&mut sink, &mut room, b"idrup"), Ok(()));
+    assert_eq!(rt; write_line(&mut sink, &mut room, &input), Ok(()));
+    assert_eq!(rt; write_line(&mut sink, &mut room, &status), Ok(()));
     assert_eq!(rt;
         write_lits(&mut sink, &mut room, b'l', lemma.as_slice()),
         Ok(())
     );
-    let text = b"p idrup\ni 1 -2 0\ns UNKNOWN\nl 10 -9 0\nw 1 -2 0\nr -2 1 0\nd 0\nl 5 0\n";
+    let text = b"p idrup\ni 1 -2 0\ns UNKNOWN\nl 5 0\n";
     assert_eq!(rt; sink.bytes(), text.as_slice());
     assert_eq!(rt; room, 1_000 - text.len() as u64);
     Ok(())

@@ -91,6 +91,8 @@ fn broken_lines_are_refused_in_single_bytes(rt: HostRuntime) -> Result<(), Fail>
     let alloc = rt.alloc();
     let rows = [
         ("x 1 0", Rule::Letter),
+        ("v 1 0", Rule::Letter),
+        ("f 1 0", Rule::Letter),
         ("ddddddddddddddddddddddddddddddddd 1 0", Rule::Letter),
         ("i", Rule::Unclosed),
         ("i 1", Rule::Unclosed),

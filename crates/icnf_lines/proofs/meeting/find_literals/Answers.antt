@@ -1,4 +1,4 @@
-use Rattle.icnf_lines.proofs.Finding.{finding_more, found_all, not_ended, not_found}
+use Rattle.icnf_lines.proofs.Finding.{finding_none, finding_more, found_all, not_ended, not_found}
 use Rattle.icnf_lines.proofs.meeting.find_literals.Goals as goal
 
 pub literals-preserved : goal.literals-preserved
@@ -15,3 +15,6 @@ returns-in-Err-end_line-clause-found g c = not_ended c.args.table.now c.literals
 
 pub returns-in-Err-clause-found : goal.returns-in-Err-clause-found
 returns-in-Err-clause-found g c = not_found c.args.table.now c.literals.table c.literals.stranger c.literals.claim _ _ c.literals.invariant _ c.in-Err.fault c.in-Err.ensures.part
+
+pub literals-init : goal.literals-init
+literals-init g c = finding_none c.args.table.now _

@@ -29,3 +29,13 @@ pub returns-in_err-status_body-in-Status : goal.returns-in_err-status_body-in-St
 returns-in_err-status_body-in-Status g c =
     let e = err_from_is_err_and c.from_residual-in_err-status_body-in-Status.result c.from_residual-in_err-status_body-in-Status.ensures.1 in
     rw (e.1, e.2, c.in-Status.is) (status_fault events.Status (λ ws. refl) c.in_err-status_body-in-Status.field-0.0 _ _ c.in_err-status_body-in-Status.ensures.body)
+
+pub returns-in_err-literals_body-in-Values : goal.returns-in_err-literals_body-in-Values
+returns-in_err-literals_body-in-Values g c =
+    let e = err_from_is_err_and c.from_residual-in_err-literals_body-in-Values.result c.from_residual-in_err-literals_body-in-Values.ensures.1 in
+    rw (e.1, e.2, c.in-Values.is) (literals_fault letters.Values events.Values (λ ws. refl) c.in_err-literals_body-in-Values.field-0.0 _ _ c.in_err-literals_body-in-Values.ensures.body)
+
+pub returns-in_err-literals_body-in-Failed : goal.returns-in_err-literals_body-in-Failed
+returns-in_err-literals_body-in-Failed g c =
+    let e = err_from_is_err_and c.from_residual-in_err-literals_body-in-Failed.result c.from_residual-in_err-literals_body-in-Failed.ensures.1 in
+    rw (e.1, e.2, c.in-Failed.is) (literals_fault letters.Failed events.Failed (λ ws. refl) c.in_err-literals_body-in-Failed.field-0.0 _ _ c.in_err-literals_body-in-Failed.ensures.body)

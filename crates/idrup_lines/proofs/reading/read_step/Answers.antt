@@ -29,9 +29,9 @@ pub returns-in_err-read_event-in_default : goal.returns-in_err-read_event-in_def
 returns-in_err-read_event-in_default g c =
     let e = err_from_is_err_and c.from_residual-in_err-read_event-in_default.result c.from_residual-in_err-read_event-in_default.ensures.1 in
     let d = c.in_default in
-    rw (e.1, e.2) (event_fault c.args.letter d.not-Lemma d.not-Deletion d.not-Weakening d.not-Restoring c.in_err-read_event-in_default.field-0.0 _ _ c.in_err-read_event-in_default.ensures)
+    rw (e.1, e.2) (event_fault c.args.letter d.not-Lemma d.not-Deletion d.not-Weakening d.not-Restoring d.not-Values d.not-Failed c.in_err-read_event-in_default.field-0.0 _ _ c.in_err-read_event-in_default.ensures)
 
 pub returns-in_ok-read_event-in_default : goal.returns-in_ok-read_event-in_default
 returns-in_ok-read_event-in_default g c =
     let d = c.in_default in
-    event_read c.args.letter d.not-Lemma d.not-Deletion d.not-Weakening d.not-Restoring _ _ _ c.in_ok-read_event-in_default.ensures
+    event_read c.args.letter d.not-Lemma d.not-Deletion d.not-Weakening d.not-Restoring d.not-Values d.not-Failed _ _ _ c.in_ok-read_event-in_default.ensures

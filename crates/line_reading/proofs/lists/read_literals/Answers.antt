@@ -6,7 +6,7 @@ use Rattle.line_reading.specs.Parts.{ReadsPart}
 use Rattle.line_reading.specs.Runs.{IsRun, IsWholeRun}
 use Rattle.line_reading.specs.Kinds.{literal_says}
 use Rattle.line_reading.proofs.Joined.{told_at_start}
-use Rattle.line_reading.proofs.Collecting.{literal_list_is, succeeded, Collects, Collects-start, collecting_more, collecting_last, collecting_fault}
+use Rattle.line_reading.proofs.Collecting.{literal_list_is, succeeded, Collects, Collects-start, collecting_more, collecting_last, collecting_fault, collecting_memory}
 use Rattle.line_reading.proofs.Running.{run_read, whole_read}
 use Rattle.line_reading.proofs.lists.read_literals.Goals as goal
 
@@ -23,6 +23,7 @@ literals-init g c =
       passed = c.pass_over-in-Ok-default-false.ensures.moves.passed;
       line = c.pass_over-in-Ok-default-false.ensures.line;
       standing = c.pass_over-in-Ok-default-false.ensures.standing;
+      taken = c.pass_over-in-Ok-default-false.ensures.taken;
       ended = c.pass_over-in-Ok-default-false.ensures.moves.ended;
       told =
           subst (λ q. WhereTold (ahead p left) (ahead q left) (λ t u. Collects literal_list c.push_run.new.lits p t q u)) (sym c.pass_over-in-Ok-default-false.ensures.place)
@@ -39,7 +40,7 @@ returns-in-Ok-default-true g c =
     let all : c.push_run.new.lits ≡ run.0 = run.2 ∙ ap (λ l. l ++ run.0) c.empty_literals-lits.ensures in
     record {
       part = record {
-        stays = record { moves = c.pass_over.ensures.moves; line = c.pass_over.ensures.line; standing = c.pass_over.ensures.standing };
+        stays = record { moves = c.pass_over.ensures.moves; line = c.pass_over.ensures.line; standing = c.pass_over.ensures.standing; taken = c.pass_over.ensures.taken };
         told =
             subst (λ q. WhereTold (ahead p left) (ahead q left) (λ t u. ReadsPart literal_list (Ok c.push_run.new.lits) p t q u)) (sym c.pass_over.ensures.place)
             (subst (λ l. WhereTold (ahead p left) (ahead (passed_over n p) left) (λ t u. ReadsPart literal_list (Ok l) p t (passed_over n p) u)) (sym all)
@@ -59,3 +60,6 @@ returns-in-Ok-None g c = record { part = collecting_last literal_list literal_sa
 
 pub returns-in-Err-next_word : goal.returns-in-Err-next_word
 returns-in-Err-next_word g c = record { part = collecting_fault literal_list literal_says literal_list_is c.literals.lits _ _ _ c.literals.invariant c.in-Err-next_word.fault c.in-Err-next_word.ensures.part }
+
+pub returns-then-is_err : goal.returns-then-is_err
+returns-then-is_err g c = record { part = collecting_memory literal_list literal_says literal_list_is c.literals.lits _ _ _ c.literals.invariant c.in-Ok-Some.l (rw c.in-Ok-Some.field-0-is at c.in-Ok-Some.ensures.part) }

@@ -19,7 +19,7 @@ returns-in-Some-clause-yes c = λ left.
     (whole_read c.args.lits.now p c.in-Some.count left c.coming.ensures.sound.bounded run)
 
 pub returns-in-None-clause-stays : goal.returns-in-None-clause-stays
-returns-in-None-clause-stays c = record { moves = c.coming.ensures.sound; line = refl; standing = refl }
+returns-in-None-clause-stays c = record { moves = c.coming.ensures.sound; line = refl; standing = refl; taken = λ e. e }
 
 pub returns-in-None-clause-no : goal.returns-in-None-clause-no
 returns-in-None-clause-no c = λ _. subst (λ b. (n : ℕ) → IsWholeRun c.args.lits.now b n → ⊥) c.coming.ensures.value c.in-None.ensures.none

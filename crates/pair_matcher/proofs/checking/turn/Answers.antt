@@ -16,4 +16,4 @@ returns-in-Ok-take_end-clause-told g c = λ a b h. rw c.take_end.ensures.place (
 pub returns-in-Err-Syntax-clause-told : goal.returns-in-Err-Syntax-clause-told
 returns-in-Err-Syntax-clause-told g c = λ a b h. second_moves a _ b _ _ _ _ _ h (rw c.in-Err-Syntax.field-0-is at c.in-Err-Syntax.ensures.told)
     (λ x tx y ty uy k m. c.refused.ensures ∙ ap (λ n. Refused Proof n c.in-Err-Syntax.rule) c.line.ensures.line
-    ∙ line_broken g.P.ProofSide.form (g.P.ProofSide.stands c.args.c.now.side) c.args.c.now.at.queries x y c.args.c.now.at.interaction c.args.c.now.at.proof c.read_step.new.window tx ty c.in-Err-Syntax.rule k m)
+    ∙ line_broken g.P.ProofSide.form (g.P.ProofSide.stands c.args.c.now.side) c.args.c.now.at.queries x y c.args.c.now.at.interaction c.args.c.now.at.proof c.read_step.new.window tx ty uy c.in-Err-Syntax.rule k m)

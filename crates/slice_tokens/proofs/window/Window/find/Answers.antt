@@ -23,7 +23,8 @@ returns-in-Ended-clause-takes g c =
     rw after (record {
       moves = record { passed = omega arith; bounded = (looked_bounds p bound).1; counted = omega (arith, i.moves.counted, ap (λ q. q.line) after); ended = i.moves.ended };
       line = i.line;
-      standing = i.standing;
+      standing = i.standing ∙ sym c.requires;
+      fresh = sym (ap (λ q. q.fresh) after) ∙ c.in-Ended.ensures.fresh ∙ i.fresh;
       holds = holds_word (looked p) n s.1 (omega (arith, inside.0)) (omega (arith, inside.1))
           (λ none. ends_here p bound i.standing (sym s.0 ∙ none) (omega arith));
     })
@@ -70,7 +71,8 @@ returns-in-TooLong-clause-takes g c =
     rw after (record {
       moves = record { passed = omega arith; bounded = (looked_bounds p bound).1; counted = omega (arith, i.moves.counted); ended = i.moves.ended };
       line = i.line;
-      standing = i.standing;
+      standing = i.standing ∙ sym c.requires;
+      fresh = sym (ap (λ q. q.fresh) after) ∙ c.in-TooLong.ensures.fresh ∙ i.fresh;
       holds = omega (arith, inside.0, c.in-TooLong.ensures.seen);
     })
 
@@ -136,6 +138,7 @@ look-preserved g c =
     record {
       standing = standing ∙ i.standing;
       line = line ∙ i.line;
+      fresh = stays.fresh ∙ c.in-Going.ensures.fresh ∙ i.fresh;
       moves = record { passed = omega (arith, passed); bounded = omega (arith, passed, bounds.1); counted = omega (arith, passed, line, i.moves.counted); ended = λ e. absurd (going (i.moves.ended e)) };
       again = λ h.
           let held = end_held p i.standing (ap at_line_end (i.again h).0 ∙ h) in

@@ -8,5 +8,5 @@ use Rattle.slice_tokens.proofs.window.Window.is_at_line_feed.Goals as goal
 pub returns-clause-end : goal.returns-clause-end
 returns-clause-end c =
     let p = c.args.self.now in
-    let told : c.sees_line_feed.result ≡ true → (left : Option (List ℕ)) → IfSome (ahead p left) (λ bytes. due (present p bytes) ≡ due_end) = λ e left. end_told p left c.recall_bounds.ensures.bounded (sym c.sees_line_feed.ensures ∙ e) in
+    let told : c.sees_line_feed.result ≡ true → (left : Option (List ℕ)) → IfSome (ahead p left) (λ bytes. due (present p bytes) ≡ due_end) = λ e left. end_told p left c.recall_bounds.ensures.moves.bounded (sym c.sees_line_feed.ensures ∙ e) in
     OnTrue_from c.sees_line_feed.result ((left : Option (List ℕ)) → IfSome (ahead p left) (λ bytes. due (present p bytes) ≡ due_end)) told

@@ -1,26 +1,31 @@
-use Rattle.std.proofs.Common.{◌≡◌, Ok, false, refl, sym, ◌∙◌, le_refl}
-use Rattle.slice_tokens.specs.declared.token.Token.TheVariants.{LineEnd}
+use Rattle.std.proofs.Common.{◌≡◌, ℕ, ◌<◌, Ok, true, refl, arith}
+use Rattle.std.specs.declared.result.Result.{Result}
+use Rattle.slice_tokens.specs.declared.token.TokenFault.{TokenFault}
 use Rattle.slice_tokens.specs.Place.{ahead}
-use Rattle.slice_tokens.specs.Calls.{LeavesLines, stands_in_content}
-use Rattle.slice_tokens.proofs.Told.{told_refl, told_bare, end_bare, later_refl}
+use Rattle.slice_tokens.specs.Calls.{at_line_end}
+use Rattle.slice_tokens.proofs.Taking.{leaves_word, answers_word}
 use Rattle.slice_tokens.proofs.window.Window.next.Goals as goal
 
-pub returns-then-not-is_in_content : goal.returns-then-not-is_in_content
-returns-then-not-is_in_content g c =
+pub returns : goal.returns
+returns g c =
     let p = c.args.self.now in
-    let left = g.S.Source.left c.args.src.now in
-    let outside : stands_in_content p.standing ≡ false = sym c.is_in_content.ensures ∙ c.if-not-is_in_content.true in (
+    let m = c.seek.new.self in
+    let n = c.in_ok-count.count in
+    let left = g.S.Source.left in
+    let seek = c.in_ok-count.ensures in
+    let some : 0 < n = omega (arith, c.if-count-eq0.false) in
+    let going : at_line_end p ≡ true → ⊥ = λ e. let none : (let a : Result ℕ TokenFault = Ok n in a) ≡ Ok 0 = (seek.again e).0 in let zero : n ≡ 0 = cc none in c.if-count-eq0.false zero in (
       (
         refl,
         λ _. tt,
-        record {
-          moves = c.recall_bounds.ensures;
-          line = refl;
-          standing = refl;
-          passes = end_bare p outside;
-          again = λ _. refl;
-          told = told_refl (ahead p left) (λ t u. LeavesLines (Ok LineEnd) p t p u) (λ t. record { present = refl; behind = later_refl p t });
-        },
+        leaves_word p m c.take.follows.lender-at-none n c.take.result (left c.args.src.now) (left c.seek.new.src) some c.take.follows.holds-at-none c.take.ensures.word seek.takes going seek.told (seek.word some),
       ),
-      record { answer = told_bare p left outside; again = λ _. (tt, refl); ended = λ _. refl; count = le_refl (g.S.Source.faults c.args.src.now); read = λ e. (cc); after = tt },
+      record {
+        answer = answers_word (ahead p (left c.args.src.now)) (ahead m (left c.seek.new.src)) p m n c.take.result.now some c.take.ensures.word seek.told;
+        again = λ e. absurd (going e);
+        ended = seek.ended;
+        count = seek.count;
+        read = λ e. cc e;
+        after = tt;
+      },
     )

@@ -1,8 +1,8 @@
-use Rattle.std.proofs.Common.{◌≡◌, ◌<◌, ◌≤◌, ◌++◌, length, take, get_or, true, sym, ap, subst, arith}
+use Rattle.std.proofs.Common.{◌≡◌, ◌<◌, ◌≤◌, ◌++◌, length, take, get_or, true, sym, ap, ◌∙◌, subst, arith}
 use Rattle.session_rules.specs.Lines.{is_line_feed, most_bytes}
-use Rattle.slice_tokens.specs.Calls.{SameContent}
-use Rattle.slice_tokens.specs.Held.{readable}
+use Rattle.slice_tokens.specs.Held.{SameBehind, readable}
 use Rattle.slice_tokens.proofs.Texts.{Free}
+use Rattle.slice_tokens.proofs.Places.{passed_taken}
 use Rattle.slice_tokens.proofs.Skipping.{rest_skip, line_skip, free_before}
 use Rattle.slice_tokens.proofs.window.Window.skip.Goals as goal
 
@@ -21,7 +21,8 @@ returns-in-Some-clause-skips c =
     let after = c.pass_line.ensures in
     record {
       passed = omega (arith, ap (λ q. q.passed) after);
-      content = λ b. subst (λ q. SameContent p (p.held ++ b) q (q.held ++ b)) (sym after) (line_skip at p b 0 bound c.requires.within inside free byte);
+      fresh = ap (λ q. q.fresh) after;
+      content = λ b. subst (λ q. SameBehind p (p.held ++ b) q (q.held ++ b)) (sym after) (line_skip at p b 0 bound c.requires.within inside free byte);
     }
 
 pub returns-in-None-clause-skips : goal.returns-in-None-clause-skips
@@ -36,5 +37,6 @@ returns-in-None-clause-skips c =
     let after = c.pass.ensures in
     record {
       passed = omega (arith, long, c.requires.some, ap (λ q. q.passed) after);
-      content = λ b. subst (λ q. SameContent p (p.held ++ b) q (q.held ++ b)) (sym after) (rest_skip n p b bound c.requires.within (omega (arith, long)) free);
+      fresh = ap (λ q. q.fresh) after ∙ passed_taken n p c.requires.fresh;
+      content = λ b. subst (λ q. SameBehind p (p.held ++ b) q (q.held ++ b)) (sym after) (rest_skip n p b bound c.requires.within (omega (arith, long)) free);
     }
