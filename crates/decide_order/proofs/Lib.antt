@@ -3,3 +3,4 @@ pub mod Ranks
 pub mod Places
 pub mod Views
 pub mod Orders
+mod Examples

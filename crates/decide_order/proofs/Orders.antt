@@ -9,13 +9,13 @@ use Rattle.std.proofs.lemmas.List.Folds.{list_any_at}
 use Rattle.std.proofs.lemmas.Bool.{both_ways}
 use Rattle.lits.proofs.Members.{any_at}
 use Rattle.lits.specs.Literal.{max_var}
-use Rattle.decide_order.specs.Ranked.{Ranked, IsMember, IsBest, score, empty, with_zeros, with_reserved, with_score, halved, with_member, without_member}
+use Rattle.decide_order.specs.Ranked.{Ranked, IsMember, IsBest, score, empty, with_zeros, with_reserved, with_score, scaled, with_member, without_member}
 use Rattle.decide_order.specs.Placed.{Placed, has}
 use Rattle.decide_order.specs.Heap.{rank, rank_at, IsHeapFrom, RisesAt, SinksAt, IsReordered, IsOrder}
 use Rattle.decide_order.specs.Shown.{score_map, member_set, shown}
 use Rattle.decide_order.proofs.Heaps.{same_ranks, top, rises_added, rises_raised, sinks_taken}
 use Rattle.decide_order.proofs.Ranks.{rank_same, rank_grown, rank_best}
-use Rattle.decide_order.proofs.Views.{score_map-set, score_map-zeros, score_map-halved, member-has, member_set-same, member_set-push, insert_member, member_set-taken, same_ranked, shown-score}
+use Rattle.decide_order.proofs.Views.{score_map-set, score_map-zeros, score_map-scaled, member-has, member_set-same, member_set-push, insert_member, member_set-taken, same_ranked, shown-score}
 
 same_or_not : (i j : ℕ) → (i ≡ j) ⊎ (i ≢ j)
 same_or_not i j = grind arith
@@ -81,7 +81,7 @@ unplaced_member ss p v h m = both_ways _ (member-has p.items v ∙ h) m
 
 -- ---- A score grows
 
-pub record Bumped (ss tt : List ℕ) (p r : Placed) (v s : ℕ) : Type 0 where
+pub record Raised (ss tt : List ℕ) (p r : Placed) (v s : ℕ) : Type 0 where
   pub order : IsOrder tt r
   pub shows : shown tt r ≡ with_score (shown ss p) v s
 
@@ -92,23 +92,23 @@ pub record Grows (ss tt : List ℕ) (v s : ℕ) : Type 0 where
   pub is : tt ≡ slice_set ss (v - 1) s
   pub more : slice_index ss (v - 1) ≤ s
 
--- the scores as `bump` leaves them
-pub grows : (ss tt : List ℕ) (o : Ranked) (v s x : ℕ) (p : Placed) → IsOrder ss p → shown ss p ≡ o → 0 < v → v ≤ o.reserved → x ≡ get_or ss (v - 1) x
-    → s ≡ min (x + 1) (2 ^ 64 - 1) → x < 2 ^ 64 → tt ≡ slice_set ss (v - 1) s → Grows ss tt v s
-grows ss tt o v s x p h shows z le e es fits et =
+-- the scores as `raise` leaves them
+pub grows : (ss tt : List ℕ) (o : Ranked) (v s x by : ℕ) (p : Placed) → IsOrder ss p → shown ss p ≡ o → 0 < v → v ≤ o.reserved → x ≡ get_or ss (v - 1) x
+    → s ≡ min (x + by) (2 ^ 64 - 1) → x < 2 ^ 64 → tt ≡ slice_set ss (v - 1) s → Grows ss tt v s
+grows ss tt o v s x by p h shows z le e es fits et =
     let room : p.reserved ≡ o.reserved = ap (λ r. r.reserved) shows in
     let sized = h.sized in
     let read : x ≡ slice_index ss (v - 1) = e ∙ get_or_default ss (v - 1) x 0 (omega arith) in
     record { positive = z; scored = omega arith; is = et; more = omega arith }
 
 -- the score that callers see, and the next one
-pub next_score : (ss : List ℕ) (o : Ranked) (v s x : ℕ) (p : Placed) → IsOrder ss p → shown ss p ≡ o → 0 < v → v ≤ o.reserved → x ≡ get_or ss (v - 1) x
-    → s ≡ min (x + 1) (2 ^ 64 - 1) → s ≡ min (score o v + 1) (2 ^ 64 - 1)
-next_score ss o v s x p h shows z le e es =
+pub next_score : (ss : List ℕ) (o : Ranked) (v s x by : ℕ) (p : Placed) → IsOrder ss p → shown ss p ≡ o → 0 < v → v ≤ o.reserved → x ≡ get_or ss (v - 1) x
+    → s ≡ min (x + by) (2 ^ 64 - 1) → s ≡ min (score o v + by) (2 ^ 64 - 1)
+next_score ss o v s x by p h shows z le e es =
     let room : p.reserved ≡ o.reserved = ap (λ r. r.reserved) shows in
     let sized = h.sized in
     let read : x ≡ slice_index ss (v - 1) = e ∙ get_or_default ss (v - 1) x 0 (omega arith) in
-    es ∙ ap (λ k. min (k + 1) (2 ^ 64 - 1)) (read ∙ sym (shown-score ss p v z) ∙ ap (λ r. score r v) shows)
+    es ∙ ap (λ k. min (k + by) (2 ^ 64 - 1)) (read ∙ sym (shown-score ss p v z) ∙ ap (λ r. score r v) shows)
 
 other_rank : (ss tt : List ℕ) (v s w : ℕ) → Grows ss tt v s → 0 < w → w ≢ v → rank tt w ≡ rank ss w
 other_rank ss tt v s w g z n =
@@ -123,14 +123,14 @@ more_rank ss tt v s g =
     let h = g.more in
     rank_grown ss tt v (omega arith)
 
-pub rises_bumped : (ss tt : List ℕ) (p : Placed) (v s i : ℕ) → IsOrder ss p → Grows ss tt v s → ((j : ℕ) → j < length p.items → 0 < slice_index p.items j)
+pub rises_grown : (ss tt : List ℕ) (p : Placed) (v s i : ℕ) → IsOrder ss p → Grows ss tt v s → ((j : ℕ) → j < length p.items → 0 < slice_index p.items j)
     → i < length p.items → slice_index p.items i ≡ v → ((j : ℕ) → j < length p.items → slice_index p.items j ≡ v → j ≡ i) → RisesAt tt p.items i
-rises_bumped ss tt p v s i o g up lt at alone =
+rises_grown ss tt p v s i o g up lt at alone =
     rises_raised ss tt p.items i (λ j lj n. other_rank ss tt v s (slice_index p.items j) g (up j lj) (λ e. n (alone j lj e)))
     (rw at (more_rank ss tt v s g)) o.heap
 
-pub bumped : (ss tt : List ℕ) (p r : Placed) (v s : ℕ) → IsOrder ss p → Grows ss tt v s → IsHeapFrom tt r.items 0 → IsReordered p r → Bumped ss tt p r v s
-bumped ss tt p r v s o g heap re =
+pub raised : (ss tt : List ℕ) (p r : Placed) (v s : ℕ) → IsOrder ss p → Grows ss tt v s → IsHeapFrom tt r.items 0 → IsReordered p r → Raised ss tt p r v s
+raised ss tt p r v s o g heap re =
     let sized = o.sized in
     let same = re.reserved in
     let long : length tt ≡ length ss = ap length g.is ∙ length-set ss (v - 1) s in
@@ -139,38 +139,39 @@ bumped ss tt p r v s o g heap re =
       shows = same_ranked _ _ same (ap score_map g.is ∙ score_map-set ss v s g.positive g.scored) (member_set-same p.items r.items re.same);
     }
 
-pub bumped_alone : (ss tt : List ℕ) (p : Placed) (v s : ℕ) → IsOrder ss p → Grows ss tt v s → ((j : ℕ) → j < length p.items → 0 < slice_index p.items j)
-    → has p.items v ≡ false → Bumped ss tt p p v s
-bumped_alone ss tt p v s o g up no_item =
-    bumped ss tt p p v s o g (same_ranks ss tt p.items 0 (λ j lj. other_rank ss tt v s (slice_index p.items j) g (up j lj) (λ e.
+pub raised_alone : (ss tt : List ℕ) (p : Placed) (v s : ℕ) → IsOrder ss p → Grows ss tt v s → ((j : ℕ) → j < length p.items → 0 < slice_index p.items j)
+    → has p.items v ≡ false → Raised ss tt p p v s
+raised_alone ss tt p v s o g up no_item =
+    raised ss tt p p v s o g (same_ranks ss tt p.items 0 (λ j lj. other_rank ss tt v s (slice_index p.items j) g (up j lj) (λ e.
     both_ways _ no_item (list_any_at (λ y. nat_eq y v) p.items j 0 lj (eq-eqb _ v e)))) o.heap)
     (record { reserved = refl; count = refl; same = λ w. refl })
 
--- ---- The scores are halved
+-- ---- The scores are scaled
 
 -- a list that was written over in place
-pub written : (xs ys zs : List ℕ) (n : ℕ) → n ≡ length xs → ys ≡ map (λ s. s / 2) zs → zs ≡ xs → take n (ys ++ drop (length ys) xs) ≡ map (λ s. s / 2) xs
-written xs ys zs n en e ez =
-    let long : length ys ≡ length xs = ap length e ∙ length-map zs (λ s. s / 2) ∙ ap length ez in
+pub written : (f : ℕ → ℕ) (xs ys zs : List ℕ) (n : ℕ) → n ≡ length xs → ys ≡ map f zs → zs ≡ xs → take n (ys ++ drop (length ys) xs) ≡ map f xs
+written f xs ys zs n en e ez =
+    let long : length ys ≡ length xs = ap length e ∙ length-map zs f ∙ ap length ez in
     let rest : drop (length ys) xs ≡ [] = drop_all (length ys) xs (omega arith) in
-    rw rest (ap (take n) (right_nil ys) ∙ take_all n ys (omega arith) ∙ e ∙ ap (map (λ s. s / 2)) ez)
+    rw rest (ap (take n) (right_nil ys) ∙ take_all n ys (omega arith) ∙ e ∙ ap (map f) ez)
   where
     right_nil : (xs : List ℕ) → xs ++ [] ≡ xs
     right_nil [] = refl
     right_nil (x ∷ xs) = ap (λ ys. x ∷ ys) (right_nil xs)
 
-pub record Halved (ss tt : List ℕ) (p r : Placed) : Type 0 where
+pub record Scaled (ss tt : List ℕ) (p r : Placed) (bits : ℕ) : Type 0 where
   pub order : IsOrder tt r
-  pub shows : shown tt r ≡ halved (shown ss p)
+  pub shows : shown tt r ≡ scaled (shown ss p) bits
 
-pub halves : (ss tt : List ℕ) (p r : Placed) → IsOrder ss p → tt ≡ map (λ s. s / 2) ss → IsHeapFrom tt r.items 0 → IsReordered p r → Halved ss tt p r
-halves ss tt p r o e heap re =
+pub scales : (ss tt : List ℕ) (p r : Placed) (bits : ℕ) → IsOrder ss p → tt ≡ map (λ s. s / 2 ^ bits) ss → IsHeapFrom tt r.items 0 → IsReordered p r
+    → Scaled ss tt p r bits
+scales ss tt p r bits o e heap re =
     let sized = o.sized in
     let same = re.reserved in
-    let long : length tt ≡ length ss = ap length e ∙ length-map ss (λ s. s / 2) in
+    let long : length tt ≡ length ss = ap length e ∙ length-map ss (λ s. s / 2 ^ bits) in
     record {
       order = record { sized = omega arith; heap = heap };
-      shows = same_ranked _ _ same (ap score_map e ∙ score_map-halved ss) (member_set-same p.items r.items re.same);
+      shows = same_ranked _ _ same (ap score_map e ∙ score_map-scaled ss bits) (member_set-same p.items r.items re.same);
     }
 
 -- ---- The best member is taken

@@ -1,6 +1,7 @@
 -- How a change of the scores' list changes the map, and a change of the placed list the set.
-use Rattle.std.proofs.Common.{◌≡◌, ◌≢◌, ℕ, zero, suc, ◌+◌, ◌-◌, ◌/◌, ◌<◌, ◌≤◌, ◌⊎◌, Bool, true, false, ◌||◌, nat_eq, eqb-true, cond, List, [], ◌∷◌, ◌++◌, length, map, replicate, Option, Some, None, refl, sym, ◌∙◌, ap, inl, inr, arith, append_assoc, length-append}
+use Rattle.std.proofs.Common.{◌≡◌, ◌≢◌, ℕ, zero, suc, ◌+◌, ◌-◌, ◌/◌, ◌^◌, ◌<◌, ◌≤◌, ◌⊎◌, Bool, true, false, ◌||◌, nat_eq, eqb-true, cond, List, [], ◌∷◌, ◌++◌, length, map, replicate, Option, Some, None, refl, sym, ◌∙◌, ap, inl, inr, arith, append_assoc, length-append}
 use Rattle.std.specs.Prelude.{slice_index, slice_set, unwrap_or}
+use Rattle.std.proofs.Math.Nat.{zero-div}
 use Rattle.std.specs.Option.{option_map}
 use Rattle.std.proofs.lemmas.Bool.Decides.{nat_tests}
 use Rattle.std.proofs.lemmas.Bool.{cases_Bool}
@@ -10,7 +11,7 @@ use Rattle.std.specs.FinMap as scored
 use Rattle.std.specs.FinMap.{nat_cmp-IsAntisymmetric, get-from_entries, get-entries, get-insert, find}
 use Rattle.std.specs.FinSet as set
 use Rattle.std.specs.FinSet.{contains-from_list_nat, contains-insert, contains-remove, from_list_push}
-use Rattle.decide_order.specs.Ranked.{Ranked, score, with_zeros, halved_scores}
+use Rattle.decide_order.specs.Ranked.{Ranked, score, with_score, with_zeros, scaled, scaled_scores}
 use Rattle.decide_order.specs.Placed.{Placed, has}
 use Rattle.decide_order.specs.Shown.{scores_from, score_map, member_set, shown}
 
@@ -117,29 +118,33 @@ score_map-zeros ss (suc n) =
     longer : (xs : List ℕ) → length (xs ++ 0 ∷ []) ≡ length xs + 1
     longer xs = length-append xs (0 ∷ []) ∙ omega arith
 
--- ---- Halving
+-- ---- Scaling
 
-find-halved : (q : ℕ) (es : List (ℕ × ℕ)) → find nat_cmp q (map (λ e. (e.0, e.1 / 2)) es) ≡ option_map (λ s. s / 2) (find nat_cmp q es)
-find-halved q [] = refl
-find-halved q (e ∷ es) = elim (cases_Bool (eq_by_cmp nat_cmp q e.0)) [
+find-mapped : (f : ℕ → ℕ) (q : ℕ) (es : List (ℕ × ℕ)) → find nat_cmp q (map (λ e. (e.0, f e.1)) es) ≡ option_map f (find nat_cmp q es)
+find-mapped f q [] = refl
+find-mapped f q (e ∷ es) = elim (cases_Bool (eq_by_cmp nat_cmp q e.0)) [
   | inl h ↦ rw h refl
-  | inr h ↦ rw h (find-halved q es)
+  | inr h ↦ rw h (find-mapped f q es)
 ]
 
-at-halved : (ss : List ℕ) (i : ℕ) → at (map (λ s. s / 2) ss) i ≡ option_map (λ s. s / 2) (at ss i)
-at-halved [] i = refl
-at-halved (s ∷ ss) zero = refl
-at-halved (s ∷ ss) (suc i) = at-halved ss i
+at-mapped : (f : ℕ → ℕ) (ss : List ℕ) (i : ℕ) → at (map f ss) i ≡ option_map f (at ss i)
+at-mapped f [] i = refl
+at-mapped f (s ∷ ss) zero = refl
+at-mapped f (s ∷ ss) (suc i) = at-mapped f ss i
 
-pub score_map-halved : (ss : List ℕ) → score_map (map (λ s. s / 2) ss) ≡ halved_scores (score_map ss)
-score_map-halved ss = same_map _ _ (λ q. each q ∙ sym (behind q))
+get-scaled : (scores : scored.FinMap nat_cmp ℕ) (bits q : ℕ) → scored.get (scaled_scores scores bits) q ≡ option_map (λ s. s / 2 ^ bits) (scored.get scores q)
+get-scaled scores bits q =
+    get-from_entries nat_cmp_total _ q ∙ find-mapped (λ s. s / 2 ^ bits) q (scored.entries scores) ∙ ap (option_map (λ s. s / 2 ^ bits)) (sym (get-entries scores q))
+
+pub score_map-scaled : (ss : List ℕ) (bits : ℕ) → score_map (map (λ s. s / 2 ^ bits) ss) ≡ scaled_scores (score_map ss) bits
+score_map-scaled ss bits = same_map _ _ (λ q. each q ∙ sym (get-scaled (score_map ss) bits q))
   where
-    behind : (q : ℕ) → scored.get (halved_scores (score_map ss)) q ≡ option_map (λ s. s / 2) (scored.get (score_map ss) q)
-    behind q = get-from_entries nat_cmp_total _ q ∙ find-halved q (scored.entries (score_map ss)) ∙ ap (option_map (λ s. s / 2)) (sym (get-entries (score_map ss) q))
+    less : ℕ → ℕ
+    less s = s / 2 ^ bits
 
-    each : (q : ℕ) → scored.get (score_map (map (λ s. s / 2) ss)) q ≡ option_map (λ s. s / 2) (scored.get (score_map ss) q)
+    each : (q : ℕ) → scored.get (score_map (map less ss)) q ≡ option_map less (scored.get (score_map ss) q)
     each zero = get-score_map-zero _ ∙ rw (get-score_map-zero ss) refl
-    each (suc i) = get-score_map _ (suc i) i (omega arith) ∙ at-halved ss i ∙ ap (option_map (λ s. s / 2)) (sym (get-score_map ss (suc i) i (omega arith)))
+    each (suc i) = get-score_map _ (suc i) i (omega arith) ∙ at-mapped less ss i ∙ ap (option_map less) (sym (get-score_map ss (suc i) i (omega arith)))
 
 -- ---- Members
 
@@ -185,3 +190,16 @@ same_ranked o r a b c = λ i. record { reserved = a i; scores = b i; members = c
 
 pub shown-score : (ss : List ℕ) (p : Placed) (v : ℕ) → 0 < v → score (shown ss p) v ≡ slice_index ss (v - 1)
 shown-score ss p v z = ap (λ o. unwrap_or o 0) (get-score_map ss v (v - 1) (omega arith)) ∙ unwrap-at ss (v - 1)
+
+pub score-scaled : (o : Ranked) (bits v : ℕ) → score (scaled o bits) v ≡ score o v / 2 ^ bits
+score-scaled o bits v = ap (λ x. unwrap_or x 0) (get-scaled o.scores bits v) ∙ less (scored.get o.scores v)
+  where
+    less : (x : Option ℕ) → unwrap_or (option_map (λ s. s / 2 ^ bits) x) 0 ≡ unwrap_or x 0 / 2 ^ bits
+    less None = sym (zero-div (2 ^ bits))
+    less (Some s) = refl
+
+pub score-same : (o : Ranked) (v s : ℕ) → score (with_score o v s) v ≡ s
+score-same o v s = rw (get-insert nat_cmp_total, ties v) refl
+
+pub score-other : (o : Ranked) (v s w : ℕ) → w ≢ v → score (with_score o v s) w ≡ score o w
+score-other o v s w n = rw (get-insert nat_cmp_total, differs w v n) refl

@@ -1,5 +1,5 @@
 -- What callers see of an order: scores of variables, and which variables are members.
-use Rattle.std.specs.Prelude.{◌≡◌, ℕ, zero, suc, ◌+◌, ◌-◌, ◌/◌, ◌<◌, ◌≤◌, ◌⊎◌, IsTrue, map, max, unwrap_or, refl}
+use Rattle.std.specs.Prelude.{◌≡◌, ℕ, zero, suc, ◌+◌, ◌-◌, ◌/◌, ◌^◌, ◌<◌, ◌≤◌, ◌⊎◌, IsTrue, map, max, unwrap_or, refl}
 use Rattle.std.specs.Ordering.{nat_cmp}
 use Rattle.std.specs.Coded.{Coded, code_by, coded×, coded_ℕ}
 use Rattle.std.specs.FinMap as scored
@@ -46,12 +46,12 @@ with_reserved o vars = record { reserved = max o.reserved vars; scores = with_ze
 abbrev pub with_score : Ranked → ℕ → ℕ → Ranked
 with_score o v s = record { reserved = o.reserved; scores = scored.insert o.scores v s; members = o.members }
 
--- each score halved downwards
-abbrev pub halved_scores : scored.FinMap nat_cmp ℕ → scored.FinMap nat_cmp ℕ
-halved_scores scores = scored.from_entries (map (λ e. (e.0, e.1 / 2)) (scored.entries scores))
+-- each score divided by 2^bits downwards
+abbrev pub scaled_scores : scored.FinMap nat_cmp ℕ → ℕ → scored.FinMap nat_cmp ℕ
+scaled_scores scores bits = scored.from_entries (map (λ e. (e.0, e.1 / 2 ^ bits)) (scored.entries scores))
 
-abbrev pub halved : Ranked → Ranked
-halved o = record { reserved = o.reserved; scores = halved_scores o.scores; members = o.members }
+abbrev pub scaled : Ranked → ℕ → Ranked
+scaled o bits = record { reserved = o.reserved; scores = scaled_scores o.scores bits; members = o.members }
 
 -- with one more member, and without one
 abbrev pub with_member : Ranked → ℕ → Ranked

@@ -1,17 +1,18 @@
 // The binary heap over a placed list: a variable that may be better than the one above it rises, and one that may be
 // worse than those below it sinks.
-ghost use Rattle.std.specs.Prelude.{◌≡◌, ◌<◌, ◌≤◌, ◌/◌, IsTrue, map, false, IfSome, IfNone, length};
+ghost use Rattle.std.specs.Prelude.{◌≡◌, ◌<◌, ◌≤◌, ◌/◌, ◌^◌, IsTrue, map, false, IfSome, IfNone, length};
 ghost use Rattle.decide_order.specs.Heap.{rank, IsHeapFrom, RisesAt, SinksAt, IsBetterChild, NoBetterChild, IsReordered};
 
 use crate::placed::PlacedList;
 use lits::MAX_VAR;
 
-/// Halves each score downwards.
-pub fn halve_each(scores: &mut [u64])
-    ensures { scores.new ≡ map (λ s. s / 2) scores.old }
+/// Divides each score by 2^bits downwards.
+pub fn scale_each(scores: &mut [u64], bits: u32)
+    requires { bits < 64 }
+    ensures { scores.new ≡ map (λ s. s / 2 ^ bits) scores.old }
 {
     for score in scores {
-        *score /= 2;
+        *score >>= bits;
     }
 }
 

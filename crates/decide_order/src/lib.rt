@@ -4,14 +4,14 @@
 //! N. Sörensson, 2003). The greatest score is at the top, and the least variable of these.
 #![tactic(auto)]
 
-ghost use Rattle.std.specs.Prelude.{◌≡◌, ◌+◌, ◌-◌, ◌^◌, ◌≤◌, min, IfSome, IfNone, OnOk, OnErr, IsOk};
+ghost use Rattle.std.specs.Prelude.{◌≡◌, ◌+◌, ◌-◌, ◌^◌, ◌<◌, ◌≤◌, min, IfSome, IfNone, OnOk, OnErr, IsOk};
 ghost use Rattle.std.specs.FinSet as set;
-ghost use Rattle.decide_order.specs.Ranked.{IsReserved, IsMember, IsBest, score, empty, with_reserved, with_score, with_member, without_member, halved};
+ghost use Rattle.decide_order.specs.Ranked.{IsReserved, IsMember, IsBest, score, empty, with_reserved, with_score, with_member, without_member, scaled};
 
 mod heap;
 mod placed;
 
-use heap::{halve_each, heapify, rise, sink};
+use heap::{heapify, rise, scale_each, sink};
 use lits::MAX_VAR;
 use placed::PlacedList;
 use std::alloc::{AllocError, Global};
@@ -90,24 +90,25 @@ impl Order {
         rise(&self.scores, &mut self.placed, last);
     }
 
-    /// Adds 1 to a variable's score, which stays at 2^64 - 1. It takes no memory.
-    pub fn bump(&mut self, var: u32)
+    /// Adds an amount to a variable's score, which stays at 2^64 - 1 where the sum would be greater. It takes no memory.
+    pub fn raise(&mut self, var: u32, by: u64)
         requires { IsReserved self.old var }
-        ensures { self.new ≡ with_score self.old var (min (score self.old var + 1) (2 ^ 64 - 1)) }
+        ensures { self.new ≡ with_score self.old var (min (score self.old var + by) (2 ^ 64 - 1)) }
     {
         let row = (var - 1) as usize;
         let score = self.scores[row];
-        self.scores[row] = score.saturating_add(1);
+        self.scores[row] = score.saturating_add(by);
         if let Some(place) = self.placed.place_of(var) {
             rise(&self.scores, &mut self.placed, place);
         }
     }
 
-    /// Halves each score downwards. It takes no memory.
-    pub fn halve(&mut self)
-        ensures { self.new ≡ halved self.old }
+    /// Divides each score by 2^bits downwards, of members and of others. It takes no memory.
+    pub fn scale(&mut self, bits: u32)
+        requires { bits < 64 }
+        ensures { self.new ≡ scaled self.old bits }
     {
-        halve_each(&mut self.scores);
+        scale_each(&mut self.scores, bits);
         heapify(&self.scores, &mut self.placed);
     }
 

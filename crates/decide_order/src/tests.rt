@@ -1,4 +1,4 @@
-// A tie, a score that is halved, and a thousand operations held against a plain scan.
+// A tie, scores that stay at the end and are scaled to a tie, and a thousand operations held against a plain scan.
 ghost use Rattle.std.specs.Prelude.{◌<◌, ◌≤◌, IfSome};
 
 use crate::Order;
@@ -8,13 +8,31 @@ use std::test::Fail;
 fn the_least_variable_is_taken_on_a_tie(rt: HostRuntime) -> Result<(), Fail> {
     let mut order = Order::new(rt.alloc());
     order.reserve(4)?;
-    order.bump(4);
-    order.bump(2);
+    order.raise(4, 1);
+    order.raise(2, 1);
     order.insert(4);
     order.insert(2);
     assert_eq!(rt; order.take_best(), Some(2));
     assert_eq!(rt; order.take_best(), Some(4));
     assert_eq!(rt; order.take_best(), None);
+    Ok(())
+}
+
+#[test]
+fn scores_stay_at_the_end_and_tie_when_scaled(rt: HostRuntime) -> Result<(), Fail> {
+    let mut order = Order::new(rt.alloc());
+    order.reserve(4)?;
+    order.raise(3, u64::MAX);
+    order.raise(3, 5);
+    order.raise(4, u64::MAX);
+    order.raise(1, u64::MAX - 1);
+    order.insert(4);
+    order.insert(3);
+    order.insert(1);
+    assert_eq!(rt; order.take_best(), Some(3));
+    order.scale(1);
+    assert_eq!(rt; order.take_best(), Some(1));
+    assert_eq!(rt; order.take_best(), Some(4));
     Ok(())
 }
 
@@ -47,9 +65,10 @@ fn a_thousand_operations_agree_with_a_scan(rt: HostRuntime) -> Result<(), Fail> 
         let i = (state >> 33) as usize % 40;
         match (state >> 59) % 16 {
             0 => {
-                order.halve();
+                let bits = i as u32 % 4;
+                order.scale(bits);
                 for k in 0..40usize {
-                    scores[k] /= 2;
+                    scores[k] >>= bits;
                 }
             }
             1..=4 => {
@@ -64,8 +83,9 @@ fn a_thousand_operations_agree_with_a_scan(rt: HostRuntime) -> Result<(), Fail> 
                 members[i] = true;
             }
             _ => {
-                order.bump(i as u32 + 1);
-                scores[i] = scores[i].saturating_add(1);
+                let by = (state >> 40) % 50;
+                order.raise(i as u32 + 1, by);
+                scores[i] = scores[i].saturating_add(by);
             }
         }
     }

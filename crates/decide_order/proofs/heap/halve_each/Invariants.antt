@@ -1,5 +1,0 @@
-use Rattle.std.proofs.Common.{◌≡◌, ◌/◌, ◌++◌, map, take, drop}
-use Rattle.decide_order.proofs.heap.halve_each.Given as goal
-
-abbrev pub invariant-loop-score : goal.invariant-loop-score
-invariant-loop-score l = l.score-items ≡ map (λ s. s / 2) (take l.score-index l.fn.scores) ++ drop l.score-index l.fn.scores
