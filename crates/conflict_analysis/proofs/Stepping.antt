@@ -1,8 +1,8 @@
 -- The steps of an analysis down the trail.
-use Rattle.std.proofs.Common.{◌≡◌, ℕ, zero, suc, ◌+◌, ◌-◌, ◌/◌, ◌<◌, ◌≤◌, ◌⊎◌, Bool, true, false, ◌&&◌, List, [], ◌∷◌, ◌++◌, length, take, drop, filter, get_or, reverse, Contains, Some, None, refl, sym, ◌∙◌, ap, subst, inl, inr, arith, append_assoc}
+use Rattle.std.proofs.Common.{◌≡◌, ℕ, zero, suc, ◌+◌, ◌-◌, ◌/◌, ◌<◌, ◌≤◌, ◌⊎◌, Bool, true, false, ◌&&◌, List, [], ◌∷◌, ◌++◌, length, take, drop, filter, get_or, set, reverse, Contains, Some, None, refl, sym, ◌∙◌, ap, subst, inl, inr, arith, append_assoc}
 use Rattle.std.specs.Prelude.{is_none}
-use Rattle.std.proofs.lemmas.List.{reverse-append}
-use Rattle.std.proofs.lemmas.Bool.{cases_Bool, both_ways, and_parts, and_from}
+use Rattle.std.proofs.lemmas.List.{reverse-append, length-set}
+use Rattle.std.proofs.lemmas.Bool.{cases_Bool, both_ways, and_parts, and_from, cases_eq}
 use Rattle.lits.specs.Literal.{neg}
 use Rattle.session_rules.specs.Logic.{has}
 use Rattle.lits.proofs.Literal.{neg-neg}
@@ -23,6 +23,7 @@ use Rattle.search_laws.proofs.Analysis.{forces, analysis-skip, analysis-keep, an
 use Rattle.conflict_analysis.specs.declared.marks.Mark.{Mark}
 use Rattle.conflict_analysis.specs.declared.marks.Mark.TheVariants as mark
 use Rattle.conflict_analysis.specs.Marked.{is_pending, pending}
+use Rattle.conflict_analysis.proofs.Marking.{pending-other, count-same}
 use Rattle.conflict_analysis.specs.Walking.{IsClauseAt, IsActive, IsMarked, IsMore, IsSearching, IsWalking, lower_trail, is_top, count_top}
 
 -- ---- The step at a place
@@ -324,3 +325,51 @@ module _ (e : EngineView) (k : IsEngine e) (i l : ℕ) (b : Below e i l) where
     first_top = h.first_top;
     rest_lower = h.rest_lower;
   }
+
+  -- ---- The visited entry's mark is taken off
+
+  other_here : (x : ℕ) → has (literals (take (i - 1) e.trail)) x ≡ true → x / 2 ≡ l / 2 → ⊥
+  other_here x m q =
+      let f = (k.entries (take (i - 1) e.trail) b.after b.step b.split).free in
+      elim (cases_eq x l) [
+        | inl y ↦ both_ways _ f.0 (subst (λ z. has (literals (take (i - 1) e.trail)) z ≡ true) (y ∙ sym b.lit) m)
+        | inr y ↦ let opposite : x ≡ neg l = omega (arith, y, q) in both_ways _ f.1 (subst (λ z. has (literals (take (i - 1) e.trail)) z ≡ true) (opposite ∙ ap neg (sym b.lit)) m)
+      ]
+
+  left_here : (ns : List Mark) (x : ℕ) → has (literals (take (i - 1) e.trail)) x ≡ true → pending (set ns (l / 2) mark.Clear) x ≡ pending ns x
+  left_here ns x m = pending-other ns l x mark.Clear (other_here x m)
+
+  pub search_visited : (ns rs : List Mark) (hints : List ℕ) (count : ℕ) → IsSearching e (i - 1) ns hints count → rs ≡ set ns (l / 2) mark.Clear → IsSearching e (i - 1) rs hints count
+  search_visited ns rs hints count h is = subst (λ z. IsSearching e (i - 1) z hints count) (sym is) (record {
+    within = h.within;
+    room = let q = h.room in let n = length-set ns (l / 2) mark.Clear in omega (arith, q, n);
+    analysed = analysis-more e k (take (i - 1) e.trail) (pending ns) (pending (set ns (l / 2) mark.Clear)) [] (reverse hints) (λ x m q. left_here ns x m ∙ q) h.analysed;
+    count_is = h.count_is ∙ count-same (λ x. is_top e x && pending ns x) (λ x. is_top e x && pending (set ns (l / 2) mark.Clear) x) (literals (take (i - 1) e.trail))
+        (λ x m. ap (λ z. is_top e x && z) (sym (left_here ns x (has_from (literals (take (i - 1) e.trail)) x m))));
+    some = h.some;
+  })
+
+  pub walk_visited : (ns rs : List Mark) (lemma hints : List ℕ) → IsWalking e (i - 1) ns lemma hints → rs ≡ set ns (l / 2) mark.Clear → IsWalking e (i - 1) rs lemma hints
+  walk_visited ns rs lemma hints h is = subst (λ z. IsWalking e (i - 1) z lemma hints) (sym is) (record {
+    within = h.within;
+    room = let q = h.room in let n = length-set ns (l / 2) mark.Clear in omega (arith, q, n);
+    analysed = analysis-more e k (take (i - 1) e.trail) (pending ns) (pending (set ns (l / 2) mark.Clear)) lemma (reverse hints) (λ x m q. left_here ns x m ∙ q) h.analysed;
+    picked = h.picked;
+    lower = λ x m q. h.lower x m (sym (left_here ns x m) ∙ q);
+    first = h.first;
+    rest = h.rest;
+    lemma_is = h.lemma_is;
+    first_top = h.first_top;
+    rest_lower = h.rest_lower;
+  })
+
+-- where nothing is pending, the walk is at its end
+pub walk_stops : (e : EngineView) (k : IsEngine e) (i : ℕ) (ms : List Mark) (lemma hints : List ℕ) → IsWalking e i ms lemma hints → ((x : ℕ) → pending ms x ≡ false) → IsWalking e 0 ms lemma hints
+walk_stops e k zero ms lemma hints h n = h
+walk_stops e k (suc i) ms lemma hints h n =
+    let w = h.within in
+    let long = length-literals e.trail in
+    let l = get_or (literals e.trail) (suc i - 1) 0 in
+    let b = below e (suc i) l (literals e.trail) (omega arith) w refl (default_same (literals e.trail) (suc i - 1) 0 l (omega (arith, w, long))) in
+    let same : suc i - 1 ≡ i = omega arith in
+    walk_stops e k i ms lemma hints (subst (λ z. IsWalking e z ms lemma hints) same (walk_skip e k (suc i) l b ms lemma hints h (n l))) n

@@ -164,9 +164,11 @@ fn first_alone(
                 Some(slot) if count > 1 => {
                     count = mark_all(engine, marks, slot, level, i, count - 1)?;
                     hints.push(id_of(engine, slot))?;
+                    marks.visit(l);
                 }
                 _ => {
                     lemma.push(l.neg())?;
+                    marks.visit(l);
                     return Ok(i);
                 }
             }
@@ -244,14 +246,21 @@ fn walk(
 {
     let trail = engine.trail();
     for i in (0..from).rev() {
+        if !marks.has_pending() {
+            return Ok(());
+        }
         let l = trail[i];
         if marks.at(l).is_pending() {
             match reason_to_use(engine, marks, l)? {
                 Some(slot) => {
                     mark_needed(engine, marks, slot)?;
                     hints.push(id_of(engine, slot))?;
+                    marks.visit(l);
                 }
-                None => lemma.push(l.neg())?,
+                None => {
+                    lemma.push(l.neg())?;
+                    marks.visit(l);
+                }
             }
         }
     }

@@ -1,8 +1,9 @@
-// A mark for each variable, and a list of the literals that were marked, so that all marks are taken off in their number.
+// A mark for each variable, a list of the literals that were marked, so that all marks are taken off at the cost of their number,
+// and how many are pending, so that a walk down the trail stops where none is.
 
-ghost use Rattle.std.specs.Prelude.{◌≡◌, ◌≢◌, ◌≤◌, ℕ, slice_index_or, ◌/◌, ◌<◌, Bool, false, length, slice_set, OnOk, OnErr, max};
+ghost use Rattle.std.specs.Prelude.{◌≡◌, ◌≢◌, ◌≤◌, ℕ, slice_index_or, ◌+◌, ◌/◌, ◌<◌, Bool, false, length, slice_set, OnOk, OnErr, max};
 ghost use Rattle.lits.specs.Literal.{max_var};
-ghost use Rattle.conflict_analysis.specs.Marked.{mark_at, is_pending, AreNoted, IsClear};
+ghost use Rattle.conflict_analysis.specs.Marked.{mark_at, is_pending, pending, one_if, AreNoted, IsClear};
 
 use lits::Lit;
 use std::alloc::{AllocError, Global};
@@ -67,6 +68,16 @@ impl Mark {
     }
 }
 
+/// The number of pending marks, of so many marks at most, behind a change of one.
+fn recount(limit: usize, count: usize, was: bool, is: bool) -> usize
+    requires counted { one_if was ≤ count }
+    requires within { count + one_if is ≤ limit + one_if was }
+    ensures { result + one_if was ≡ count + one_if is }
+{
+    let others = if was { count - 1 } else { count };
+    if is { others + 1 } else { others }
+}
+
 /// Takes the mark of a place off, if there is such a place.
 fn take_one(items: &mut [Mark], i: usize)
     ensures at { slice_index_or items.new i Mark.Clear ≡ Mark.Clear }
@@ -87,23 +98,35 @@ fn take_off(items: &mut [Mark], noted: &[Lit])
     }
 }
 
+/// Takes the marks of these literals off a vector.
+fn take_all_off(items: &mut Vec<Mark>, noted: &[Lit])
+    requires { AreNoted items.old.items noted.now }
+    ensures clear { IsClear items.new.items }
+    ensures length { length items.new.items ≡ length items.old.items }
+{
+    take_off(items, noted);
+}
+
 /// The marks. Contracts see them by variable.
 #[derive(Drop)]
 pub struct Marks {
     items: Vec<Mark>,
+    // the literals that were marked since the marks were last clear
     noted: Vec<Lit>,
+    // how many marks are pending
+    pending: usize,
 }
 
 impl Model for Marks {
     ghost use Rattle.std.specs.Prelude.{List};
     ghost use Rattle.conflict_analysis.specs.declared.marks.Mark.{Mark};
-    ghost use Rattle.conflict_analysis.specs.Marked.{AreNoted};
+    ghost use Rattle.conflict_analysis.specs.Marked.{AreMarks};
 
     ghost Value = { List Mark };
 
     ghost view = { λ m. m.items.items };
 
-    ghost invariant = { λ m. AreNoted m.items.items m.noted.items };
+    ghost invariant = { λ m. AreMarks m.items.items m.noted.items m.pending };
 }
 
 impl Marks {
@@ -114,6 +137,7 @@ impl Marks {
         Marks {
             items: Vec::new(alloc),
             noted: Vec::new(alloc),
+            pending: 0,
         }
     }
 
@@ -143,8 +167,29 @@ impl Marks {
         ensures err { OnErr result (self.new ≡ self.old) }
     {
         self.noted.push(l)?;
-        self.items[(l.code() / 2) as usize] = mark;
+        let place = (l.code() / 2) as usize;
+        let was = self.items[place].is_pending();
+        self.pending = recount(self.items.len(), self.pending, was, mark.is_pending());
+        self.items[place] = mark;
         Ok(())
+    }
+
+    /// Takes the mark of a literal's variable off.
+    pub fn visit(&mut self, l: Lit)
+        requires { l / 2 < length self.old }
+        ensures { self.new ≡ slice_set self.old (l / 2) Mark.Clear }
+    {
+        let place = (l.code() / 2) as usize;
+        let was = self.items[place].is_pending();
+        self.pending = recount(self.items.len(), self.pending, was, Mark::Clear.is_pending());
+        self.items[place] = Mark::Clear;
+    }
+
+    /// Whether a variable's entry is yet to be visited.
+    pub fn has_pending(&self) -> bool
+        ensures { result ≡ false → (l : ℕ) → pending self.now l ≡ false }
+    {
+        self.pending > 0
     }
 
     /// Takes all marks off.
@@ -152,7 +197,8 @@ impl Marks {
         ensures clear { IsClear self.new }
         ensures length { length self.new ≡ length self.old }
     {
-        take_off(&mut self.items, &self.noted);
+        take_all_off(&mut self.items, &self.noted);
         self.noted.clear();
+        self.pending = 0;
     }
 }

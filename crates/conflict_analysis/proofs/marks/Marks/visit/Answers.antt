@@ -1,0 +1,16 @@
+use Rattle.std.proofs.Common.{◌/◌, ◌<◌, ◌≤◌, length, refl, sym, ap, ◌∙◌, subst, arith}
+use Rattle.conflict_analysis.specs.declared.marks.Mark.TheVariants as mark
+use Rattle.conflict_analysis.proofs.Marking.{recount_counted, recount_within, recount_is, noted_less, marks-set}
+use Rattle.conflict_analysis.proofs.marks.Marks.visit.Goals as goal
+
+pub recount-self-inside-requires-clause-counted : goal.recount-self-inside-requires-clause-counted
+recount-self-inside-requires-clause-counted c = recount_counted c.self.inside.items.items (c.code.result / 2) c.self.inside.pending c.index.result.now mark.Clear c.is_pending-was.result c.is_pending.result (subst (λ z. z / 2 < length c.self.inside.items.items) (sym c.code.ensures.code) (subst (λ z. c.args.l / 2 < length z) (sym c.self.view_is) c.requires)) c.index.ensures c.is_pending-was.ensures c.is_pending.ensures c.self.invariant.count_is
+
+pub recount-self-inside-requires-clause-within : goal.recount-self-inside-requires-clause-within
+recount-self-inside-requires-clause-within c = recount_within c.self.inside.items.items (c.code.result / 2) c.self.inside.pending c.index.result.now mark.Clear c.is_pending-was.result c.is_pending.result (subst (λ z. z / 2 < length c.self.inside.items.items) (sym c.code.ensures.code) (subst (λ z. c.args.l / 2 < length z) (sym c.self.view_is) c.requires)) c.index.ensures c.is_pending-was.ensures c.is_pending.ensures c.self.invariant.count_is c.len.result (omega (arith, c.len.ensures))
+
+pub invariant_of-self : goal.invariant_of-self
+invariant_of-self c = record {
+  noted_are = noted_less c.self.inside.items.items c.self.inside.noted.items (c.code.result / 2) (subst (λ z. z / 2 < length c.self.inside.items.items) (sym c.code.ensures.code) (subst (λ z. c.args.l / 2 < length z) (sym c.self.view_is) c.requires)) c.self.invariant.noted_are;
+  count_is = recount_is c.self.inside.items.items (c.code.result / 2) c.self.inside.pending c.index.result.now mark.Clear c.is_pending-was.result c.is_pending.result (subst (λ z. z / 2 < length c.self.inside.items.items) (sym c.code.ensures.code) (subst (λ z. c.args.l / 2 < length z) (sym c.self.view_is) c.requires)) c.index.ensures c.is_pending-was.ensures c.is_pending.ensures c.self.invariant.count_is c.recount-self-inside.result c.recount-self-inside.ensures;
+}
