@@ -334,3 +334,6 @@ pub fn analyze(
     hints.reverse();
     Ok(level_of_second(engine, lemma))
 }
+
+#[cfg(test)]
+mod tests;

@@ -1,7 +1,7 @@
 // A mark for each variable, a list of the literals that were marked, so that all marks are taken off at the cost of their number,
 // and how many are pending, so that a walk down the trail stops where none is.
 
-ghost use Rattle.std.specs.Prelude.{◌≡◌, ◌≢◌, ◌≤◌, ℕ, slice_index_or, ◌+◌, ◌/◌, ◌<◌, Bool, false, length, slice_set, OnOk, OnErr, max};
+ghost use Rattle.std.specs.Prelude.{[], ◌≡◌, ◌≢◌, ◌≤◌, ℕ, slice_index_or, ◌+◌, ◌/◌, ◌<◌, Bool, false, length, slice_set, OnOk, OnErr, max};
 ghost use Rattle.lits.specs.Literal.{max_var};
 ghost use Rattle.conflict_analysis.specs.Marked.{mark_at, is_pending, pending, one_if, AreNoted, IsClear};
 
@@ -132,7 +132,7 @@ impl Model for Marks {
 impl Marks {
     /// No variable.
     pub fn new(alloc: Global) -> Marks
-        ensures { length result ≡ 0 }
+        ensures { result ≡ [] }
     {
         Marks {
             items: Vec::new(alloc),
@@ -181,7 +181,12 @@ impl Marks {
     {
         let place = (l.code() / 2) as usize;
         let was = self.items[place].is_pending();
-        self.pending = recount(self.items.len(), self.pending, was, Mark::Clear.is_pending());
+        self.pending = recount(
+            self.items.len(),
+            self.pending,
+            was,
+            Mark::Clear.is_pending(),
+        );
         self.items[place] = Mark::Clear;
     }
 
