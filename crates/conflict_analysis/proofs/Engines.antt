@@ -2,13 +2,11 @@
 use Rattle.std.proofs.Common.{◌≡◌, ◌≢◌, ℕ, zero, suc, ◌+◌, ◌-◌, ◌/◌, ◌^◌, ◌<◌, ◌≤◌, ◌⊎◌, Bool, true, false, ◌&&◌, List, [], ◌∷◌, ◌++◌, length, take, drop, filter, get_or, set, Contains, Some, refl, sym, ◌∙◌, ap, subst, inl, inr, arith, append_assoc}
 use Rattle.std.proofs.lemmas.List.{take-append-drop, take_more}
 use Rattle.std.proofs.lemmas.Bool.{cases_Bool, both_ways, and_from, cases_eq}
-use Rattle.std.proofs.lemmas.Option.{same_Some}
 use Rattle.lits.specs.Literal.{neg, var}
 use Rattle.session_rules.specs.Logic.{has}
 use Rattle.lits.proofs.Members.{here, there, here_or_there, not_in_nil, has_at, has_from}
 use Rattle.propagation.specs.declared.TrailEntry.{TrailEntry}
 use Rattle.propagation.specs.Assigned.{AreNew}
-use Rattle.propagation.specs.Clauses.{slot_of, active_at}
 use Rattle.propagation.specs.Engine.{EngineView, IsEngine, IsOnce, literals, level_after, level_behind, reason_in}
 use Rattle.propagation.proofs.Trail.{new_entries, AreNew-prefix, active_reserved, trail-le, length-literals}
 use Rattle.propagation.proofs.Assigning.{reason-found, cut_at}
@@ -19,7 +17,7 @@ use Rattle.search_laws.proofs.Asserting.{append_either, placed, stays-false, goe
 use Rattle.conflict_analysis.specs.declared.marks.Mark.{Mark}
 use Rattle.conflict_analysis.specs.declared.marks.Mark.TheVariants as mark
 use Rattle.conflict_analysis.specs.Marked.{is_pending, pending}
-use Rattle.conflict_analysis.specs.Walking.{IsClauseAt, IsActive, is_top, count_top}
+use Rattle.conflict_analysis.specs.Walking.{IsActive, is_top, count_top}
 use Rattle.conflict_analysis.proofs.Marking.{pending-set, pending-other, count-same, count-more}
 
 -- ---- Clauses

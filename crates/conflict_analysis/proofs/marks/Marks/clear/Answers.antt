@@ -1,5 +1,4 @@
 use Rattle.conflict_analysis.proofs.Marking.{clear_count}
-use Rattle.std.proofs.Common.{sym, ap, ◌∙◌}
 use Rattle.conflict_analysis.proofs.marks.Marks.clear.Goals as goal
 
 pub invariant_of-self : goal.invariant_of-self

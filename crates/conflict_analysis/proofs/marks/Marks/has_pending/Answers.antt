@@ -1,6 +1,6 @@
 use Rattle.std.proofs.Common.{◌≡◌, ◌/◌, nat_lt, false, arith, subst, sym, ◌∙◌, ℕ}
 use Rattle.std.proofs.lemmas.Bool.{ltb-false}
-use Rattle.conflict_analysis.specs.Marked.{pending, how_many_pending}
+use Rattle.conflict_analysis.specs.Marked.{pending}
 use Rattle.conflict_analysis.proofs.Marking.{none_pending}
 use Rattle.conflict_analysis.proofs.marks.Marks.has_pending.Goals as goal
 

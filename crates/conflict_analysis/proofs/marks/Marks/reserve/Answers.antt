@@ -1,4 +1,4 @@
-use Rattle.std.proofs.Common.{◌-◌, ◌≤◌, length, ap, sym, ◌∙◌, arith, get_or}
+use Rattle.std.proofs.Common.{ap, ◌∙◌, arith, get_or}
 use Rattle.conflict_analysis.specs.declared.marks.Mark.TheVariants as mark
 use Rattle.conflict_analysis.proofs.Marking.{marks-grown, marks-grown_at}
 use Rattle.conflict_analysis.proofs.marks.Marks.reserve.Goals as goal

@@ -1,5 +1,5 @@
-use Rattle.std.proofs.Common.{◌/◌, ◌<◌, ◌≤◌, length, refl, sym, ap, ◌∙◌, subst, arith}
-use Rattle.conflict_analysis.proofs.Marking.{recount_counted, recount_within, recount_is, noted_less, marks-set}
+use Rattle.std.proofs.Common.{◌/◌, ◌<◌, length, sym, subst, arith}
+use Rattle.conflict_analysis.proofs.Marking.{recount_counted, recount_within, recount_is, marks-set}
 use Rattle.conflict_analysis.proofs.marks.Marks.set.Goals as goal
 
 pub recount-self-inside-requires-clause-counted : goal.recount-self-inside-requires-clause-counted

@@ -1,6 +1,6 @@
-use Rattle.std.proofs.Common.{◌/◌, ◌<◌, ◌≤◌, length, refl, sym, ap, ◌∙◌, subst, arith}
+use Rattle.std.proofs.Common.{◌/◌, ◌<◌, length, sym, subst, arith}
 use Rattle.conflict_analysis.specs.declared.marks.Mark.TheVariants as mark
-use Rattle.conflict_analysis.proofs.Marking.{recount_counted, recount_within, recount_is, noted_less, marks-set}
+use Rattle.conflict_analysis.proofs.Marking.{recount_counted, recount_within, recount_is, noted_less}
 use Rattle.conflict_analysis.proofs.marks.Marks.visit.Goals as goal
 
 pub recount-self-inside-requires-clause-counted : goal.recount-self-inside-requires-clause-counted
