@@ -1,5 +1,10 @@
-//! The analysis of a conflict: to the first literal of the present level that alone is pending, with the literals left out
-//! that follow of others.
+//! Conflict analysis: from a false clause to a lemma with hints, which may be added and asserted at a lower level.
+//!
+//! The trail is walked from its latest entry on. A literal is pending while the clause that the reasons so far give has its
+//! negation. At the present level each pending literal is replaced by the others of its reason, until one alone is left, the
+//! first unique implication point (J. Marques-Silva and K. Sakallah, 1996). Below it a literal is replaced where it follows of
+//! others that are kept, found by a search of bounded depth (N. Sörensson and A. Biere, 2009). The walk stops where nothing is
+//! pending. The reasons, in the order of the trail, are the hints.
 #![tactic(auto)]
 
 ghost use Rattle.std.specs.Prelude.{◌≡◌, ◌≢◌, ◌⊎◌, IsTrue, ℕ, ◌≤◌, ◌<◌, ◌/◌, ◌++◌, ◌∷◌, [], List, length, take, reverse, Contains, Bool, true, false, OnOk, IfOk, IfSome, MatchOption, Some};
@@ -307,8 +312,9 @@ fn level_of_second(engine: &Engine, lemma: &[Lit]) -> u32
     }
 }
 
-/// The lemma of a conflict above level 0, which may be asserted at the level that is given, with its hints. All marks are
-/// clear before and after.
+/// The lemma of a conflict above level 0, with its hints, in the order in which they close. Gives the level at which the lemma
+/// may be asserted. All marks are clear before and after. An error comes only where memory runs out, and then what the lemma
+/// and the hints hold is of no use.
 pub fn analyze(
     engine: &Engine,
     marks: &mut Marks,
