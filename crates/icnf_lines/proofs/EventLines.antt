@@ -5,7 +5,7 @@ use Rattle.session_rules.specs.declared.Letter.TheVariants as letters
 use Rattle.session_rules.specs.declared.StatusWord.{StatusWord}
 use Rattle.session_rules.specs.declared.Event.{Event}
 use Rattle.session_rules.specs.declared.LineFault.{LineFault}
-use Rattle.session_rules.specs.Reading.{event_at, icnf_line, by_letter, of_literals, of_status}
+use Rattle.session_rules.specs.Reading.{event_at, icnf_line, script_at, script_line, by_letter, of_literals, of_status}
 use Rattle.line_reading.specs.Readers.{Reader, BodyRead}
 use Rattle.line_reading.specs.Whole.{literals_body, status_body}
 use Rattle.line_reading.proofs.ByLetter.{literals_as, status_as, body_fails}
@@ -22,3 +22,8 @@ status_fault f same e o n h = body_fails status_body (event_at letters.Status) f
 pub icnf_line_is : (ws : List (List ℕ)) → by_letter event_at ws ≡ icnf_line ws
 unfolding icnf_line
 icnf_line_is ws = refl
+
+-- and so are those of a script
+pub script_line_is : (ws : List (List ℕ)) → by_letter script_at ws ≡ script_line ws
+unfolding script_line
+script_line_is ws = refl

@@ -162,6 +162,7 @@ header_at_fault name (lines.Syntax r) f o p q t u v stays same i k = subst (λ g
   lines = i.lines;
   rule = said_header name (present p u) (Err r) i.content i.whole k.answer;
   number = i.number ∙ sym stays;
+  last = k.behind.last ∙ i.last;
   passed = passed_trans o p q t u v i.passed k.behind.passed;
 }))
 header_at_fault name lines.Read f o p q t u v stays same i k = subst (λ g. HeaderAnswers name o t q v (Err g)) (sym same) (inl (record {

@@ -71,6 +71,7 @@ module _ (e : Event) (qs : List ℕ) where
       are_good = All-append (IsGood e qs) h.good good h.are_good k.are_good;
       within = omega (arith, is, k.within, length-append h.good good);
       number = k.number;
+      last = k.last ∙ h.last;
       passed = passed_trans o p q t u v h.passed k.passed;
     }
 
@@ -94,7 +95,6 @@ module _ (e : Event) (qs : List ℕ) where
       value = k.value;
       rule = k.rule;
       cut = k.cut ∙ h.cut;
-      last = k.last ∙ h.last;
     }
     behind n m (Err (Syntax r)) free is (inl k) = inl (record {
       good = h.good ++ k.good;
@@ -139,11 +139,10 @@ module _ (e : Event) (qs : List ℕ) where
       good = [];
       line = s.line;
       partner = partner;
-      stands = record { lines = s.lines; are_good = no_line; within = some s.line (later q v) s.lines; number = s.number; passed = s.passed };
+      stands = record { lines = s.lines; are_good = no_line; within = some s.line (later q v) s.lines; number = s.number; last = s.last; passed = s.passed };
       value = s.value;
       rule = rule;
       cut = s.cut;
-      last = s.last;
     }
 
     pub line_breaks : (r : Rule) → Breaks icnf_line r o t q v → OneBreaks e qs n r o t q v
@@ -151,7 +150,7 @@ module _ (e : Event) (qs : List ℕ) where
       good = [];
       line = s.line;
       more = s.more;
-      stands = record { lines = s.lines; are_good = no_line; within = some s.line s.more s.lines; number = s.number; passed = s.passed };
+      stands = record { lines = s.lines; are_good = no_line; within = some s.line s.more s.lines; number = s.number; last = s.last; passed = s.passed };
       rule = s.rule;
     }
 
@@ -197,7 +196,7 @@ module _ (e : Event) (qs : List ℕ) where
     good = [];
     line = k.line;
     more = k.more;
-    stands = record { lines = k.lines; are_good = no_line; within = omega (arith, is); number = k.number; passed = k.passed };
+    stands = record { lines = k.lines; are_good = no_line; within = omega (arith, is); number = k.number; last = k.last; passed = k.passed };
     rule = early_breaks k.line k.early ∙ ap (λ z. Err z) (sym k.rule);
   }
 

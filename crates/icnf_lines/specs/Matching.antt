@@ -50,6 +50,7 @@ pub record StandsBehind (event : Event) (assumed : List ℕ) (n : ℕ) (good : L
   pub are_good : AreGood event assumed good
   pub within : length good < n
   pub number : line.number ≡ new.line
+  pub last : last_line new rest ≡ last_line old bytes
   pub passed : Passed old bytes new rest
 
 -- one of them is the first that isn't good: it says an event that breaks this rule first
@@ -61,7 +62,6 @@ pub record OneDiffers (event : Event) (assumed : List ℕ) (n : ℕ) (r : Rule) 
   pub value : value_of icnf_line line ≡ Ok partner
   pub rule : slice_get (pair_faults assumed event partner) 0 ≡ Some r
   pub cut : is_cut new rest ≡ is_cut old bytes
-  pub last : last_line new rest ≡ last_line old bytes
 
 -- one of them is the first that isn't good: it breaks this rule of syntax
 pub record OneBreaks (event : Event) (assumed : List ℕ) (n : ℕ) (r : Rule) (old : Place) (bytes : List ℕ) (new : Place) (rest : List ℕ) : Type 0 where

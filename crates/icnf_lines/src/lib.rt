@@ -12,5 +12,5 @@ mod writing;
 pub use header::{HeaderFault, read_header};
 pub use marks::Marks;
 pub use matching::{Match, MatchFault, match_line};
-pub use reading::{read_event, read_line};
+pub use reading::{read_event, read_line, read_script_line};
 pub use writing::{write_header, write_line};

@@ -1,5 +1,5 @@
 // How the lines of an interaction, and those of a script, are read.
-ghost use Rattle.session_rules.specs.Reading.{icnf_line, event_at};
+ghost use Rattle.session_rules.specs.Reading.{icnf_line, event_at, script_line, script_at};
 ghost use Rattle.line_reading.specs.Readers.{reader, BodyRead, LineRead};
 
 #[cfg(test)]
@@ -53,6 +53,48 @@ pub fn read_line<S: Source>(
     match enter_line(window, src) {
         Ok(None) => Ok(None),
         Ok(Some(letter)) => match read_event(spare, window, src, letter) {
+            Ok(event) => Ok(Some(event)),
+            Err(fault) => Err(fault),
+        },
+        Err(fault) => Err(fault),
+    }
+}
+
+// What stands in a script's line behind its letter, which is an input's or a query's; another letter breaks Letter.
+fn read_script_event<S: Source>(
+    spare: &mut Spare,
+    window: &mut Window,
+    src: &mut S,
+    letter: Letter,
+) -> Result<Event, LineFault>
+    ensures { let at = reader S.left S.faults in
+        BodyRead (script_at letter) (at window.old src.old) (at window.new src.new) result }
+{
+    match letter {
+        Letter::Input | Letter::Query => read_event(spare, window, src, letter),
+        _ => {
+            window.recall_bounds();
+            Err(LineFault::Syntax(Rule::Letter))
+        }
+    }
+}
+
+/// The next content line of a script, its list in the memory that is spare; none exactly at the end of the stream.
+///
+/// # Errors
+///
+/// As `read_line`'s, and a line that is neither an input nor a query breaks Letter.
+pub fn read_script_line<S: Source>(
+    spare: &mut Spare,
+    window: &mut Window,
+    src: &mut S,
+) -> Result<Option<Event>, LineFault>
+    ensures { let at = reader S.left S.faults in
+        LineRead script_line (at window.old src.old) (at window.new src.new) result }
+{
+    match enter_line(window, src) {
+        Ok(None) => Ok(None),
+        Ok(Some(letter)) => match read_script_event(spare, window, src, letter) {
             Ok(event) => Ok(Some(event)),
             Err(fault) => Err(fault),
         },

@@ -11,12 +11,13 @@ use Rattle.session_rules.specs.Pair.{verdict, Certified, events_in}
 use Rattle.session_rules.specs.Verdicts.{events_among, steps_in}
 use Rattle.session_laws.specs.Refusals.{IsWhole}
 use Rattle.session_laws.proofs.Accepted.{verdict_certifies, verdict_whole}
+use Rattle.pair_matcher.specs.Taken.{TakenBy}
 use Rattle.idrup_cli.specs.declared.plan.Places.{Places}
 use Rattle.idrup_cli.specs.declared.ending.Ending.{Ending}
 use Rattle.idrup_cli.specs.declared.ending.Ending.TheVariants.{Checked, Usage, ReadInteraction, ReadProof, NoMemory}
 use Rattle.idrup_cli.specs.Plan.{IfCheck}
 use Rattle.outside.specs.Faults.{Rose}
-use Rattle.idrup_cli.specs.Report.{Cause, line_of, status_of, verdict_status}
+use Rattle.idrup_cli.specs.Report.{Cause, Takes, line_of, status_of, verdict_status}
 
 -- what holds of a check gives what it implies
 IfCheck-map : (P Q : Form → List ℕ → List ℕ → Type 0) → ((form : Form) (a b : List ℕ) → P form a b → Q form a b)
@@ -25,6 +26,13 @@ IfCheck-map P Q implies None left right holds = tt
 IfCheck-map P Q implies (Some places) None right holds = tt
 IfCheck-map P Q implies (Some places) (Some a) None holds = tt
 IfCheck-map P Q implies (Some places) (Some a) (Some b) holds = λ check. implies places.form a b (holds check)
+
+IfCheck-both : (P Q R : Form → List ℕ → List ℕ → Type 0) → ((form : Form) (a b : List ℕ) → P form a b → Q form a b → R form a b)
+    → (places : Option Places) (left right : Option (List ℕ)) → IfCheck places left right P → IfCheck places left right Q → IfCheck places left right R
+IfCheck-both P Q R implies None left right p q = tt
+IfCheck-both P Q R implies (Some places) None right p q = tt
+IfCheck-both P Q R implies (Some places) (Some a) None p q = tt
+IfCheck-both P Q R implies (Some places) (Some a) (Some b) p q = λ check. implies places.form a b (p check) (q check)
 
 IfCheck-all : (P : Form → List ℕ → List ℕ → Type 0) → ((form : Form) (a b : List ℕ) → P form a b)
     → (places : Option Places) (left right : Option (List ℕ)) → IfCheck places left right P
@@ -89,6 +97,23 @@ module _ (status : ℕ) (old new : Option (List ℕ)) (places : Option Places) (
   accepts ReadInteraction cause same whole = not_accepted 3 (omega arith) same
   accepts ReadProof cause same whole = not_accepted 3 (omega arith) same
   accepts NoMemory cause same whole = not_accepted 5 (omega arith) same
+
+  module _ (first_rest second_rest : Option (List ℕ)) where
+    abbrev IsTaken : Form → List ℕ → List ℕ → Type 0
+    IsTaken form a b = status ≡ 1 → TakenBy (verdict form a b) a b first_rest second_rest
+
+    not_taken : (of : ℕ) → ¬ (of ≡ 1) → (¬ (status ≡ 4) → status ≡ of) → IfCheck places left right IsTaken
+    not_taken of other same = IfCheck-all IsTaken (λ form a b one. absurd (other (sym (same (λ four. omega arith)) ∙ one))) places left right
+
+    -- with 1 no more is taken than the verdict lets
+    pub takes : (ending : Ending) → Cause places left right first second ending → (¬ (status ≡ 4) → status ≡ status_of ending) → Takes places left right first_rest second_rest ending
+        → IfCheck places left right (λ form a b. status ≡ 1 → TakenBy (verdict form a b) a b first_rest second_rest)
+    takes (Checked v) cause same taken = IfCheck-both (λ form a b. v ≡ verdict form a b) (λ form a b. TakenBy v a b first_rest second_rest) IsTaken
+        (λ form a b is t one. subst (λ u. TakenBy u a b first_rest second_rest) is t) places left right cause.1 taken
+    takes Usage cause same taken = not_taken 2 (omega arith) same
+    takes ReadInteraction cause same taken = not_taken 3 (omega arith) same
+    takes ReadProof cause same taken = not_taken 3 (omega arith) same
+    takes NoMemory cause same taken = not_taken 5 (omega arith) same
 
   not_four : (v : Verdict) → ¬ (verdict_status v ≡ 4)
   not_four (Accepted queries) = omega arith

@@ -1,5 +1,5 @@
 -- How a run ends: its status, its line, and the cause of both.
-use Rattle.std.specs.Prelude.{◌≡◌, ℕ, ◌≤◌, Bool, true, List, [], ◌∷◌, ◌++◌, None, IsSome, codes, decimal}
+use Rattle.std.specs.Prelude.{◌≡◌, ℕ, ◌≤◌, ⊤, Bool, true, List, [], ◌∷◌, ◌++◌, None, IsSome, codes, decimal}
 use Rattle.std.specs.declared.option.Option.{Option}
 use Rattle.std.specs.Io.KnownBytes.{Appends}
 use Rattle.outside.specs.Faults.{Rose}
@@ -13,6 +13,7 @@ use Rattle.session_rules.specs.declared.Verdict.{Verdict}
 use Rattle.session_rules.specs.declared.Verdict.TheVariants.{Accepted, Refused}
 use Rattle.session_rules.specs.Pair.{verdict}
 use Rattle.session_rules.specs.Spelling.{line_text}
+use Rattle.pair_matcher.specs.Taken.{TakenBy}
 use Rattle.idrup_cli.specs.declared.plan.Places.{Places}
 use Rattle.idrup_cli.specs.declared.ending.Ending.{Ending}
 use Rattle.idrup_cli.specs.declared.ending.Ending.TheVariants.{Checked, Usage, ReadInteraction, ReadProof, NoMemory}
@@ -114,6 +115,11 @@ Cause places left right first second Usage = places ≡ None
 Cause places left right first second ReadInteraction = IsCheck places × Rose first.0 first.1
 Cause places left right first second ReadProof = IsCheck places × Rose second.0 second.1
 Cause places left right first second NoMemory = IsSome places
+
+-- how much of both sources a run with this plan has taken where it ends so, by what they have left
+abbrev pub Takes : Option Places → Option (List ℕ) → Option (List ℕ) → Option (List ℕ) → Option (List ℕ) → Ending → Type 0
+Takes places left right first_rest second_rest (Checked v) = IfCheck places left right (λ form a b. TakenBy v a b first_rest second_rest)
+Takes places left right first_rest second_rest _ = ⊤
 
 -- ---- What the report gets
 

@@ -9,10 +9,11 @@ ghost use Rattle.session_rules.specs.declared.Verdict.TheVariants.{Accepted, Ref
 ghost use Rattle.session_rules.specs.Pair.{verdict, Certified, events_in};
 ghost use Rattle.session_rules.specs.Verdicts.{events_among, steps_in};
 ghost use Rattle.session_laws.specs.Refusals.{IsWhole};
+ghost use Rattle.pair_matcher.specs.Taken.{TakenBy};
 ghost use Rattle.pair_matcher.specs.Checks.{HasBrokenHeader};
 ghost use Rattle.idrup_cli.specs.declared.ending.Ending.{Ending as EndingData};
 ghost use Rattle.idrup_cli.specs.Plan.{plan, IsCheck, IfCheck};
-ghost use Rattle.idrup_cli.specs.Report.{Cause, GetsLine, Reports, line_of, verdict_status};
+ghost use Rattle.idrup_cli.specs.Report.{Cause, Takes, GetsLine, Reports, line_of, verdict_status};
 
 use crate::ending::Ending;
 use crate::telling::tell;
@@ -30,6 +31,7 @@ fn ending_of<A: Source, B: Source>(
 ) -> Ending
     ensures cause { Cause (plan (map string_bytes words.now)) (A.left first.old) (B.left second.old)
         (A.faults first.old, A.faults first.new) (B.faults second.old, B.faults second.new) result }
+    ensures taken { Takes (plan (map string_bytes words.now)) (A.left first.old) (B.left second.old) (A.left first.new) (B.left second.new) result }
     ensures untouched { plan (map string_bytes words.now) ≡ None → (first.new ≡ first.old) × (second.new ≡ second.old) }
     ensures header { HasBrokenHeader (codes "icnf") (A.left first.old) → second.new ≡ second.old }
     ensures first_count { A.faults first.old ≤ A.faults first.new }
@@ -77,6 +79,10 @@ pub fn run<A: Source, B: Source, C: Sink, D: Sink, E: Sink>(
     ensures certified { IfCheck (plan (map string_bytes words.now)) (A.left first.old) (B.left second.old) (λ form a b.
         result ≡ 0 → Certified (events_in a) (events_among form (steps_in form b)) × IsWhole a) }
     ensures finished { result ≤ 1 → Becomes (E.finished report.old) (E.finished report.new) true }
+
+    // With 1 no more of the file that the line names was taken behind its line than one buffer.
+    ensures taken { IfCheck (plan (map string_bytes words.now)) (A.left first.old) (B.left second.old) (λ form a b.
+        result ≡ 1 → TakenBy (verdict form a b) a b (A.left first.new) (B.left second.new)) }
 
     // A check comes to a verdict where no count rose and memory was there.
     ensures answered { IsCheck (plan (map string_bytes words.now)) → ¬ Rose (A.faults first.old) (A.faults first.new) → ¬ Rose (B.faults second.old) (B.faults second.new)

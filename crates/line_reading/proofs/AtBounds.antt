@@ -22,4 +22,4 @@ module _ {A : Type 0} (read : List (List ℕ) → Result A Fault) where
     where
       by_lines : (ls : List Line) → later o t ≡ ls → OnlyCut ls (last_line o t) → Breaks read rules.Length o t q v ⊎ BehindCut rules.Length o t q v
       by_lines [] f k = inr (record { lines = f; cut = h.cut; rule = refl; passed = h.behind.passed })
-      by_lines (line ∷ more) f k = inl (record { line = line; more = more; lines = f; rule = cut_said none e line k.1 k.2; number = k.3 ∙ sym h.line; passed = h.behind.passed })
+      by_lines (line ∷ more) f k = inl (record { line = line; more = more; lines = f; rule = cut_said none e line k.1 k.2; number = k.3 ∙ sym h.line; last = h.behind.last; passed = h.behind.passed })

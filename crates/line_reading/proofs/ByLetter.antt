@@ -82,7 +82,7 @@ module _ {A : Type 0} (at : Letter → List (List ℕ) → Result A Fault) (none
 
   breaks_by : (letter : Letter) (fault : LineFault) (o p q : Place) (t u v : List ℕ) → q.line ≡ p.line → Entered letter o t p u → SameLater p u q v
       → Tells (of_line (present p u).cut (at letter (known_words (present p u)))) (Err fault) → LineAnswers (by_letter at) o t q v (Err fault)
-  breaks_by letter (Syntax r) o p q t u v stays e b k = inl (record { line = e.line; more = lines_behind p u; lines = e.lines; rule = said letter o p t u e ∙ k; number = e.number ∙ sym stays; passed = passed_trans o p q t u v e.passed b.passed })
+  breaks_by letter (Syntax r) o p q t u v stays e b k = inl (record { line = e.line; more = lines_behind p u; lines = e.lines; rule = said letter o p t u e ∙ k; number = e.number ∙ sym stays; last = b.last ∙ e.last; passed = passed_trans o p q t u v e.passed b.passed })
   breaks_by letter Read o p q t u v stays e b k = inl (stands_in letter o p q t u v stays e b)
   breaks_by letter Memory o p q t u v stays e b k = stands_in letter o p q t u v stays e b
 
@@ -100,7 +100,7 @@ module _ {A : Type 0} (at : Letter → List (List ℕ) → Result A Fault) (none
       ∙ ap (λ us. of_cut_line (by_letter at us)) n.0 ∙ ap (λ z. Err z) (sym n.2)
 
   pub line_unentered : (fault : LineFault) (o q : Place) (t v : List ℕ) → Enters o t q v (Err fault) → LineAnswers (by_letter at) o t q v (Err fault)
-  line_unentered (Syntax r) o q t v (inl u) = inl (record { line = u.line; more = u.more; lines = u.lines; rule = no_letter_breaks u.line r u.reason; number = u.number; passed = u.passed })
+  line_unentered (Syntax r) o q t v (inl u) = inl (record { line = u.line; more = u.more; lines = u.lines; rule = no_letter_breaks u.line r u.reason; number = u.number; last = u.last; passed = u.passed })
   line_unentered (Syntax r) o q t v (inr b) = inr b
   line_unentered Read o q t v h = h
   line_unentered Memory o q t v h = h

@@ -107,6 +107,7 @@ module _ (o p q : Place) (t u v : List ℕ) (stays : q.line ≡ p.line) (i : InL
     more = lines_behind p u;
     lines = i.lines;
     number = i.number ∙ sym stays;
+    last = b.last ∙ i.last;
     passed = passed_trans o p q t u v i.passed b.passed;
     reason = elim (no_letter_said line.cut (known_words line) f (cut_where_none o p t u i) e) [
       | inl n ↦ inl (n.0, n.1, n.2, judged_is ∙ n.3, λ c. sym (ap (λ k. if k then without_cut_word line.words else line.words) (i.whole c)) ∙ n.3, n.4)

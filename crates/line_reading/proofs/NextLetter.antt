@@ -84,6 +84,7 @@ module _ (o p q : Place) (t u v : List ℕ) (i : InLine o t p u) (s : SameLines 
     early = ap (λ ws. line.cut && is_nil ws) (judged_known line i.content ∙ f.0) ∙ ap (λ c. c && true) f.1;
     number = i.number ∙ sym stays;
     rule = refl;
+    last = s.behind.last ∙ i.last;
     passed = passed_trans o p q t u v i.passed s.behind.passed;
   }
 
@@ -110,6 +111,7 @@ bound_met o q t v h = by_lines (later o t) refl h.only
       early = ap (λ c. line.cut && is_nil (if c then known_words line else [])) k.2 ∙ ap (λ c. c && true) k.1;
       number = k.3 ∙ sym h.line;
       rule = refl;
+      last = h.behind.last;
       passed = h.behind.passed;
     })
 

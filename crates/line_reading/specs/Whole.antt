@@ -71,6 +71,7 @@ pub record Breaks {A : Type 0} (read : List (List ℕ) → Result A Fault) (r : 
   pub lines : later old bytes ≡ line ∷ more
   pub rule : value_of read line ≡ Err r
   pub number : line.number ≡ new.line
+  pub last : last_line new rest ≡ last_line old bytes
   pub passed : Passed old bytes new rest
 
 -- the bound cuts the present line, and none comes behind it
@@ -129,6 +130,7 @@ pub record Unentered (r : Rule) (old : Place) (bytes : List ℕ) (new : Place) (
   pub lines : later old bytes ≡ line ∷ more
   pub number : line.number ≡ new.line
   pub reason : NoLetterIn line r
+  pub last : last_line new rest ≡ last_line old bytes
   pub passed : Passed old bytes new rest
 
 -- what going to the next line answers
@@ -161,6 +163,7 @@ pub record CutEarly (r : Rule) (old : Place) (bytes : List ℕ) (new : Place) (r
   pub early : is_cut_early line ≡ true
   pub number : line.number ≡ new.line
   pub rule : r ≡ rules.Length
+  pub last : last_line new rest ≡ last_line old bytes
   pub passed : Passed old bytes new rest
 
 -- what looking at the next line's letter answers

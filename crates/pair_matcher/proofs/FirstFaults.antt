@@ -11,6 +11,7 @@ use Rattle.session_rules.specs.declared.Event.{Event}
 use Rattle.session_rules.specs.declared.Event.TheVariants as events
 use Rattle.session_rules.specs.declared.Rule.{Rule}
 use Rattle.session_rules.specs.declared.Rule.TheVariants as rules
+use Rattle.session_rules.specs.declared.Verdict.{Verdict}
 use Rattle.session_rules.specs.declared.Verdict.TheVariants.{Accepted, Refused}
 use Rattle.session_rules.specs.Lines.{Line, lines, end_line, has_content}
 use Rattle.session_rules.specs.Reading.{value_of, icnf_line, value_and_more, values_of, header_fault}
@@ -24,7 +25,9 @@ use Rattle.std.proofs.lemmas.List.{take-append-drop}
 use Rattle.std.proofs.lemmas.List.Concat.{flat_map-cons}
 use Rattle.std.proofs.lemmas.Grind.{flat_map-append}
 use Rattle.pair_matcher.specs.Sides.{first_rule}
-use Rattle.pair_matcher.specs.Checks.{EndsCut, at, IsBehindHeader, query_count, queries_in, all_queries, Checking, AtStep, AtEvent, AtProofEnd, AtSurplus}
+use Rattle.pair_matcher.specs.Taken.{IsWithin}
+use Rattle.pair_matcher.specs.Checks.{EndsCut, at, IsBehindHeader, query_count, queries_in, all_queries, Checking, AtStep, AtEvent, AtProofEnd, AtSurplus, IsVerdictOf}
+use Rattle.pair_matcher.proofs.Taken.{within_on}
 use Rattle.pair_matcher.proofs.CutLines.{not_behind_cut, cut_behind, cut_behind_good}
 
 -- ---- The first of some rules
@@ -157,6 +160,19 @@ module _ {S : Type 0} (form : ProofForm S) where
   unfolding verdict_by
   accepted n a b e c = ap Accepted (sym c) ∙ ap (verdict_of (all_queries form b)) (sym e)
 
+  -- a refusal of the line in which the window over that stream stands
+  names_interaction : (n : ℕ) (p q : Place) (a ta b tb : List ℕ) (rule : Rule) (more : List Refusal) → pair_refusals form a b ≡ refusal Interaction p.line rule ∷ more → IsWithin a p ta
+      → IsVerdictOf form (Refused Interaction p.line rule) (at n p q) a ta b tb
+  names_interaction n p q a ta b tb rule more e w = record { is = refused_first Interaction p.line rule more a b e; named = (w, refl) }
+
+  names_proof : (n : ℕ) (p q : Place) (a ta b tb : List ℕ) (rule : Rule) (more : List Refusal) → pair_refusals form a b ≡ refusal Proof q.line rule ∷ more → IsWithin b q tb
+      → IsVerdictOf form (Refused Proof q.line rule) (at n p q) a ta b tb
+  names_proof n p q a ta b tb rule more e w = record { is = refused_first Proof q.line rule more a b e; named = (w, refl) }
+
+  -- another name of the verdict
+  pub answers : (v w : Verdict) (n : ℕ) (p q : Place) (a ta b tb : List ℕ) → v ≡ w → IsVerdictOf form w (at n p q) a ta b tb → IsVerdictOf form v (at n p q) a ta b tb
+  answers v w n p q a ta b tb e h = subst (λ u. IsVerdictOf form u (at n p q) a ta b tb) (sym e) h
+
   -- the header of the interaction is broken, or that of the proof
   pub interaction_header : (a b : List ℕ) (number : ℕ) (r : Rule) → header_fault (codes "icnf") a ≡ Some (number, r) → Refused Interaction number r ≡ verdict_by form a b
   unfolding pair_refusals
@@ -193,7 +209,8 @@ module _ {S : Type 0} (form : ProofForm S) (stands : List S → Type 0) (queries
         ∙ ap (λ o. one_refusal Proof o ++ faults_from form [] (end_line b) (drop 1 (lines b)) (drop 1 (lines a))) k.kept
         ∙ ap (λ xs. faults_from form [] (end_line b) xs (drop 1 (lines a))) k.lines ∙ ap (λ xs. faults_from form [] (end_line b) (later proof tb) xs) h.lines;
     count = omega (arith, count);
-    last = k.last;
+    interaction_within = h.within;
+    proof_within = k.within;
     interaction_cut = h.cut;
     proof_cut = k.cut;
   }
@@ -208,24 +225,25 @@ module _ {S : Type 0} (form : ProofForm S) (stands : List S → Type 0) (queries
         faults = k.faults ∙ ap (λ xs. faults_from form k.steps (end_line b) xs ls) s.lines ∙ line_says form k.steps (end_line b) s.line (later q tc) ls (Ok step) s.value
             ∙ ap (λ n. line_faults form k.steps n (Ok step) ls (faults_from form (k.steps ++ step ∷ []) (end_line b) (later q tc) (drop (partners_of form (Ok step) ls) ls))) s.number;
         count = k.count ∙ ap (λ n. queries + n) count;
-        last = s.last ∙ k.last;
+        interaction_within = k.interaction_within;
+        proof_within = within_on b p q tb tc k.proof_within s.passed s.last;
         interaction_cut = k.interaction_cut;
         proof_cut = cut_behind form.read s.line step p q tb tc s.lines s.value s.cut k.proof_cut;
       }
 
   -- it breaks a rule of syntax
-  pub line_broken : (interaction p q : Place) (ta tb tc : List ℕ) (r : Rule) → Checking form stands (at queries interaction p) a ta b tb → Breaks form.read r p tb q tc ⊎ BehindCut r p tb q tc → Refused Proof q.line r ≡ verdict_by form a b
+  pub line_broken : (interaction p q : Place) (ta tb tc : List ℕ) (r : Rule) → Checking form stands (at queries interaction p) a ta b tb → Breaks form.read r p tb q tc ⊎ BehindCut r p tb q tc → IsVerdictOf form (Refused Proof q.line r) (at queries interaction q) a ta b tc
   line_broken interaction p q ta tb tc r k (inr c) = absurd (not_behind_cut r p q tb tc k.proof_cut c)
   line_broken interaction p q ta tb tc r k (inl s) = let ls = later interaction ta in
-      refused_first form Proof q.line r [] a b (k.faults ∙ ap (λ xs. faults_from form k.steps (end_line b) xs ls) s.lines ∙ line_says form k.steps (end_line b) s.line s.more ls (Err r) s.rule
-      ∙ ap (λ n. refusal Proof n r ∷ []) s.number)
+      names_proof form queries interaction q a ta b tc r [] (k.faults ∙ ap (λ xs. faults_from form k.steps (end_line b) xs ls) s.lines ∙ line_says form k.steps (end_line b) s.line s.more ls (Err r) s.rule
+      ∙ ap (λ n. refusal Proof n r ∷ []) s.number) (within_on b p q tb tc k.proof_within s.passed s.last)
 
   -- its step breaks an own rule
   pub own_broken : (interaction proof : Place) (ta tb : List ℕ) (step : S) (r : Rule) → AtStep form stands (at queries interaction proof) step a ta b tb
-      → ((ps : List S) → stands ps → Some r ≡ first_rule (form.faults ps step)) → Refused Proof proof.line r ≡ verdict_by form a b
+      → ((ps : List S) → stands ps → Some r ≡ first_rule (form.faults ps step)) → IsVerdictOf form (Refused Proof proof.line r) (at queries interaction proof) a ta b tb
   own_broken interaction proof ta tb step r k f = let first = first_some r (form.faults k.steps step) (f k.steps k.behind) in
-      refused_first form Proof proof.line r _ a b (k.faults ∙ ap (λ rs. refusals Proof proof.line rs ++ step_matches form (assumed (filter_map form.event k.steps)) proof.line (form.event step) (later interaction ta)
-      ++ faults_from form (k.steps ++ step ∷ []) (end_line b) (later proof tb) (drop (step_partners form (form.event step) (later interaction ta)) (later interaction ta))) first.is)
+      names_proof form queries interaction proof a ta b tb r _ (k.faults ∙ ap (λ rs. refusals Proof proof.line rs ++ step_matches form (assumed (filter_map form.event k.steps)) proof.line (form.event step) (later interaction ta)
+      ++ faults_from form (k.steps ++ step ∷ []) (end_line b) (later proof tb) (drop (step_partners form (form.event step) (later interaction ta)) (later interaction ta))) first.is) k.proof_within
 
   -- it breaks none
   behind_matches : (ps : List S) (step : S) (number : ℕ) (ls : List Line) (o : Option Event) → form.event step ≡ o
@@ -247,7 +265,8 @@ module _ {S : Type 0} (form : ProofForm S) (stands : List S → Type 0) (queries
         faults = k.faults ∙ ap (λ rs. refusals Proof proof.line rs ++ step_matches form (assumed (filter_map form.event k.steps)) proof.line (form.event step) ls ++ rest) (first_none (form.faults k.steps step) (f k.steps k.behind))
             ∙ ap (λ ms. ms ++ rest) (behind_matches k.steps step proof.line ls (form.event step) refl);
         count = k.count;
-        last = k.last;
+        interaction_within = k.interaction_within;
+        proof_within = k.proof_within;
         interaction_cut = k.interaction_cut;
         proof_cut = k.proof_cut;
       }
@@ -261,7 +280,8 @@ module _ {S : Type 0} (form : ProofForm S) (stands : List S → Type 0) (queries
     behind = k.behind;
     faults = k.faults;
     count = let c = k.count in omega (arith, c);
-    last = k.last;
+    interaction_within = k.interaction_within;
+    proof_within = k.proof_within;
     interaction_cut = k.interaction_cut;
     proof_cut = k.proof_cut;
   }
@@ -287,7 +307,8 @@ module _ {S : Type 0} (form : ProofForm S) (stands : List S → Type 0) (queries
             ∙ ap (λ ms. (ms ++ flat_map (partner_faults qs e) (take count ls)) ++ rest (drop count ls)) (none_missing proof.line e ls m.found)
             ∙ ap (λ ms. ms ++ rest (drop count ls)) (good_faults qs e (take count ls) m.good) ∙ ap rest (sym m.lines);
         count = let d = k.count in omega (arith, c, d);
-        last = k.last;
+        interaction_within = within_on a p q ta ua k.interaction_within m.passed m.last;
+        proof_within = k.proof_within;
         interaction_cut = record {
           comes = λ cut. cut_behind_good e qs (take count ls) (later q ua) m.good
               (subst EndsCut whole (k.interaction_cut.comes (sym m.cut ∙ cut)));
@@ -299,19 +320,20 @@ module _ {S : Type 0} (form : ProofForm S) (stands : List S → Type 0) (queries
   refused_past : (qs : List ℕ) (p q proof : Place) (ta ua tb : List ℕ) (e : Event) (r : Rule) (rs : List Rule) (good more : List Line) (line : Line)
       (k : AtEvent form stands (at queries p proof) (Some e) a ta b tb) → qs ≡ assumed (filter_map form.event k.steps)
       → StandsBehind e qs (partner_count e (later p ta)) good line more p ta q ua → partner_faults qs e line ≡ refusals Interaction line.number (r ∷ rs)
-      → Refused Interaction q.line r ≡ verdict_by form a b
+      → IsVerdictOf form (Refused Interaction q.line r) (at queries q proof) a ua b tb
   refused_past qs p q proof ta ua tb e r rs good more line k same m f =
       let ls = later p ta in
       let rest = faults_from form k.steps (end_line b) (later proof tb) (drop (partner_count e ls) ls) in
       let past = faults_past qs proof.line e ls good more line m.lines m.within m.are_good in
-      refused_first form Interaction q.line r _ a b (faults_are p proof ta tb e k qs same
+      names_interaction form queries q proof a ua b tb r _ (faults_are p proof ta tb e k qs same
       ∙ ap (λ ms. ms ++ rest) past.1
       ∙ ap (λ fs. (fs ++ flat_map (partner_faults qs e) past.0) ++ rest) f
-      ∙ ap (λ n. (refusals Interaction n (r ∷ rs) ++ flat_map (partner_faults qs e) past.0) ++ rest) m.number)
+      ∙ ap (λ n. (refusals Interaction n (r ∷ rs) ++ flat_map (partner_faults qs e) past.0) ++ rest) m.number) (within_on a p q ta ua k.interaction_within m.passed m.last)
 
   -- a partner breaks a rule with the event
   pub partner_differs : (qs : List ℕ) (p q proof : Place) (ta ua tb : List ℕ) (e : Event) (r : Rule) → AtEvent form stands (at queries p proof) (Some e) a ta b tb
-      → ((ps : List S) → stands ps → qs ≡ assumed (filter_map form.event ps)) → OneDiffers e qs (partner_count e (later p ta)) r p ta q ua → Refused Interaction q.line r ≡ verdict_by form a b
+      → ((ps : List S) → stands ps → qs ≡ assumed (filter_map form.event ps)) → OneDiffers e qs (partner_count e (later p ta)) r p ta q ua
+      → IsVerdictOf form (Refused Interaction q.line r) (at queries q proof) a ua b tb
   partner_differs qs p q proof ta ua tb e r k same m = let first = got_some r (pair_faults qs e m.partner) m.rule in
       refused_past qs p q proof ta ua tb e r first.more m.good (later q ua) m.line k (same k.steps k.behind) m.stands
       (ap (λ o. refusals Interaction m.line.number (partner_rules qs e o)) m.value ∙ ap (refusals Interaction m.line.number) first.is)
@@ -319,18 +341,19 @@ module _ {S : Type 0} (form : ProofForm S) (stands : List S → Type 0) (queries
   -- it breaks a rule of syntax
   pub partner_broken : (qs : List ℕ) (p q proof : Place) (ta ua tb : List ℕ) (e : Event) (r : Rule) → AtEvent form stands (at queries p proof) (Some e) a ta b tb
       → ((ps : List S) → stands ps → qs ≡ assumed (filter_map form.event ps))
-      → OneBreaks e qs (partner_count e (later p ta)) r p ta q ua ⊎ CutBehindRun e qs r p ta q ua → Refused Interaction q.line r ≡ verdict_by form a b
+      → OneBreaks e qs (partner_count e (later p ta)) r p ta q ua ⊎ CutBehindRun e qs r p ta q ua → IsVerdictOf form (Refused Interaction q.line r) (at queries q proof) a ua b tb
   partner_broken qs p q proof ta ua tb e r k same (inr c) = absurd (cut_behind_good e qs (later p ta) [] c.good
       (subst EndsCut (sym (append-nil (later p ta))) (k.interaction_cut.comes c.cut)))
   partner_broken qs p q proof ta ua tb e r k same (inl m) = refused_past qs p q proof ta ua tb e r [] m.good m.more m.line k (same k.steps k.behind) m.stands
       (ap (λ o. refusals Interaction m.line.number (partner_rules qs e o)) m.rule)
 
   -- no line is left, and a partner is owed
-  pub partner_missing : (p q proof : Place) (ta ua tb : List ℕ) (e : Event) → AtEvent form stands (at queries p proof) (Some e) a ta b tb → LacksPartner e p ta q ua → Refused Proof proof.line rules.Ended ≡ verdict_by form a b
+  pub partner_missing : (p q proof : Place) (ta ua tb : List ℕ) (e : Event) → AtEvent form stands (at queries p proof) (Some e) a ta b tb → LacksPartner e p ta q ua
+      → IsVerdictOf form (Refused Proof proof.line rules.Ended) (at queries q proof) a ua b tb
   partner_missing p q proof ta ua tb e k m = let qs = assumed (filter_map form.event k.steps) in let rest = faults_from form k.steps (end_line b) (later proof tb) in
-      refused_first form Proof proof.line rules.Ended _ a b (k.faults
+      names_proof form queries q proof a ua b tb rules.Ended _ (k.faults
       ∙ ap (λ ls. match_faults qs proof.line e ls ++ rest (drop (partner_count e ls) ls)) m.end.none
-      ∙ ap (λ o. ((if o then refusal Proof proof.line rules.Ended ∷ [] else []) ++ flat_map (partner_faults qs e) (take (partner_count e []) [])) ++ rest (drop (partner_count e []) [])) m.owes)
+      ∙ ap (λ o. ((if o then refusal Proof proof.line rules.Ended ∷ [] else []) ++ flat_map (partner_faults qs e) (take (partner_count e []) [])) ++ rest (drop (partner_count e []) [])) m.owes) k.proof_within
 
   -- ---- The proof's end
 
@@ -343,22 +366,25 @@ module _ {S : Type 0} (form : ProofForm S) (stands : List S → Type 0) (queries
     steps = k.steps;
     behind = k.behind;
     faults = k.faults ∙ ap (λ xs. faults_from form k.steps (end_line b) xs (later interaction ta)) end.none ∙ ended k.steps (end_line b) (later interaction ta)
-        ∙ ap (λ n. unfinished (filter_map form.event k.steps) n ++ surplus (later interaction ta)) (sym (end.line ∙ k.last));
+        ∙ ap (λ n. unfinished (filter_map form.event k.steps) n ++ surplus (later interaction ta)) (sym (end.line ∙ k.proof_within.last));
     count = omega (arith, c, none);
+    interaction_within = k.interaction_within;
+    proof_within = within_on b p q tb tc k.proof_within end.behind.passed end.behind.last;
     interaction_cut = k.interaction_cut;
   }
 
   -- a query is open
   pub query_open : (interaction proof : Place) (ta tb : List ℕ) (r : Rule) → AtProofEnd form stands (at queries interaction proof) a ta b tb
-      → ((ps : List S) → stands ps → Some r ≡ first_rule (broken_unless (is_idle (phase (filter_map form.event ps))) rules.Unfinished)) → Refused Proof proof.line r ≡ verdict_by form a b
+      → ((ps : List S) → stands ps → Some r ≡ first_rule (broken_unless (is_idle (phase (filter_map form.event ps))) rules.Unfinished)) → IsVerdictOf form (Refused Proof proof.line r) (at queries interaction proof) a ta b tb
   query_open interaction proof ta tb r k f = let first = first_some r (broken_unless (is_idle (phase (filter_map form.event k.steps))) rules.Unfinished) (f k.steps k.behind) in
-      refused_first form Proof proof.line r _ a b (k.faults ∙ ap (λ rs. refusals Proof proof.line rs ++ surplus (later interaction ta)) first.is)
+      names_proof form queries interaction proof a ta b tb r _ (k.faults ∙ ap (λ rs. refusals Proof proof.line rs ++ surplus (later interaction ta)) first.is) k.proof_within
 
   pub query_closed : (interaction proof : Place) (ta tb : List ℕ) → AtProofEnd form stands (at queries interaction proof) a ta b tb
       → ((ps : List S) → stands ps → None ≡ first_rule (broken_unless (is_idle (phase (filter_map form.event ps))) rules.Unfinished)) → AtSurplus form (at queries interaction proof) a ta b tb
   query_closed interaction proof ta tb k f = record {
     faults = k.faults ∙ ap (λ rs. refusals Proof proof.line rs ++ surplus (later interaction ta)) (first_none (broken_unless (is_idle (phase (filter_map form.event k.steps))) rules.Unfinished) (f k.steps k.behind));
     count = k.count;
+    interaction_within = k.interaction_within;
     interaction_cut = k.interaction_cut;
   }
 
@@ -367,20 +393,21 @@ module _ {S : Type 0} (form : ProofForm S) (stands : List S → Type 0) (queries
   surplus_rule true h e = rw e refl
   surplus_rule false h e = refl
 
-  pub line_left : (p q proof : Place) (ta ua tb : List ℕ) → AtSurplus form (at queries p proof) a ta b tb → InLine p ta q ua → Refused Interaction q.line rules.Surplus ≡ verdict_by form a b
-  line_left p q proof ta ua tb k l = let line = present q ua in refused_first form Interaction q.line rules.Surplus [] a b (k.faults ∙ ap surplus l.lines
+  pub line_left : (p q proof : Place) (ta ua tb : List ℕ) → AtSurplus form (at queries p proof) a ta b tb → InLine p ta q ua → IsVerdictOf form (Refused Interaction q.line rules.Surplus) (at queries q proof) a ua b tb
+  line_left p q proof ta ua tb k l = let line = present q ua in names_interaction form queries q proof a ua b tb rules.Surplus [] (k.faults ∙ ap surplus l.lines
       ∙ ap (λ r. refusal Interaction line.number r ∷ []) (surplus_rule line.cut (has_content line.words) l.content) ∙ ap (λ n. refusal Interaction n rules.Surplus ∷ []) l.number)
+      (within_on a p q ta ua k.interaction_within l.passed l.last)
 
   -- only the line is left that the bound cuts before its content
-  pub cut_left : (p q proof : Place) (ta ua tb : List ℕ) → AtSurplus form (at queries p proof) a ta b tb → AtBound p ta q ua → Refused Interaction q.line rules.Length ≡ verdict_by form a b
+  pub cut_left : (p q proof : Place) (ta ua tb : List ℕ) → AtSurplus form (at queries p proof) a ta b tb → AtBound p ta q ua → IsVerdictOf form (Refused Interaction q.line rules.Length) (at queries q proof) a ua b tb
   cut_left p q proof ta ua tb k l = by_lines (later p ta) refl l.only
     where
-      by_lines : (ls : List Line) → later p ta ≡ ls → OnlyCut ls (last_line p ta) → Refused Interaction q.line rules.Length ≡ verdict_by form a b
+      by_lines : (ls : List Line) → later p ta ≡ ls → OnlyCut ls (last_line p ta) → IsVerdictOf form (Refused Interaction q.line rules.Length) (at queries q proof) a ua b tb
       by_lines [] e o = absurd (subst EndsCut e (k.interaction_cut.comes l.cut))
-      by_lines (line ∷ more) e o = refused_first form Interaction q.line rules.Length [] a b (k.faults ∙ ap surplus e
+      by_lines (line ∷ more) e o = names_interaction form queries q proof a ua b tb rules.Length [] (k.faults ∙ ap surplus e
           ∙ ap (λ c. refusal Interaction line.number (if c && not (has_content line.words) then rules.Length else rules.Surplus) ∷ []) o.1
           ∙ ap (λ c. refusal Interaction line.number (if not c then rules.Length else rules.Surplus) ∷ []) o.2
-          ∙ ap (λ n. refusal Interaction n rules.Length ∷ []) (o.3 ∙ sym l.line))
+          ∙ ap (λ n. refusal Interaction n rules.Length ∷ []) (o.3 ∙ sym l.line)) (within_on a p q ta ua k.interaction_within l.behind.passed l.behind.last)
 
-  pub none_left : (p q proof : Place) (ta ua tb : List ℕ) → AtSurplus form (at queries p proof) a ta b tb → AtEnd p ta q ua → Accepted queries ≡ verdict_by form a b
-  none_left p q proof ta ua tb k l = accepted form queries a b (k.faults ∙ ap surplus l.none) k.count
+  pub none_left : (p q proof : Place) (ta ua tb : List ℕ) → AtSurplus form (at queries p proof) a ta b tb → AtEnd p ta q ua → IsVerdictOf form (Accepted queries) (at queries q proof) a ua b tb
+  none_left p q proof ta ua tb k l = record { is = accepted form queries a b (k.faults ∙ ap surplus l.none) k.count; named = tt }

@@ -5,7 +5,8 @@ pub mod Insides
 pub mod Engines
 pub mod JudgingSets
 pub mod CutLines
+pub mod TwoStreams
+pub mod Taken
 pub mod Headed
 pub mod FirstFaults
-pub mod TwoStreams
 pub mod Lines

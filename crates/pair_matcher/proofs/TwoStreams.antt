@@ -1,5 +1,5 @@
 -- Calls over two streams, each of which tells its bytes or doesn't: what is known of both is moved on by what a call says of one.
-use Rattle.std.proofs.Common.{◌≡◌, ℕ, List, Option, Some, None, subst}
+use Rattle.std.proofs.Common.{◌≡◌, ℕ, List, Option, Some, None, refl, subst}
 use Rattle.slice_tokens.specs.Place.{WhereTold}
 use Rattle.line_reading.proofs.Joined.{told_then, told_map}
 use Rattle.pair_matcher.specs.Checks.{BothTold}
@@ -36,6 +36,24 @@ is_told o t P h a e = by_rest t (subst (λ x. WhereTold x t P) e h)
     by_rest None h = absurd h
     by_rest (Some ta) h = (ta, h)
 
--- two streams of these bytes
-pub both_known : (o t p u : Option (List ℕ)) (P : List ℕ → List ℕ → Type 0) → BothTold o t p u (λ a ta b tb. P a b) → (a b : List ℕ) → o ≡ Some a → p ≡ Some b → P a b
-both_known o t p u P h a b e f = (is_told p u (λ b tb. P a b) (is_told o t (λ a ta. WhereTold p u (λ b tb. P a b)) h a e).1 b f).1
+-- what is still to come of it is told too
+pub to_come_told : (o t : Option (List ℕ)) (P : List ℕ → List ℕ → Type 0) → WhereTold o t P → (a : List ℕ) → o ≡ Some a → (ta : List ℕ) × (t ≡ Some ta) × P a ta
+to_come_told o t P h a e = by_rest t (subst (λ x. WhereTold x t P) e h)
+  where
+    by_rest : (t : Option (List ℕ)) → WhereTold (Some a) t P → (ta : List ℕ) × (t ≡ Some ta) × P a ta
+    by_rest None h = absurd h
+    by_rest (Some ta) h = (ta, refl, h)
+
+-- two streams of these bytes, and what is still to come of each
+pub record BothKnown (t u : Option (List ℕ)) (P : List ℕ → List ℕ → List ℕ → List ℕ → Type 0) (a b : List ℕ) : Type 0 where
+  pub interaction : List ℕ
+  pub proof : List ℕ
+  pub interaction_told : t ≡ Some interaction
+  pub proof_told : u ≡ Some proof
+  pub holds : P a interaction b proof
+
+pub both_known : (o t p u : Option (List ℕ)) (P : List ℕ → List ℕ → List ℕ → List ℕ → Type 0) → BothTold o t p u P → (a b : List ℕ) → o ≡ Some a → p ≡ Some b → BothKnown t u P a b
+both_known o t p u P h a b e f =
+    let first = to_come_told o t (λ a ta. WhereTold p u (λ b tb. P a ta b tb)) h a e in
+    let second = to_come_told p u (λ b tb. P a first.0 b tb) first.2 b f in
+    record { interaction = first.0; proof = second.0; interaction_told = first.1; proof_told = second.1; holds = second.2 }

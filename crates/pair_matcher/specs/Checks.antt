@@ -1,15 +1,17 @@
 -- How far the check of a pair has come, and what its parts answer.
-use Rattle.std.specs.Prelude.{◌≡◌, ℕ, ◌+◌, true, if◌then◌else◌, List, [], ◌∷◌, ◌++◌, map, drop, count_by, filter_map, Option, None, Some, is_some, IsSome, option_and_then}
-use Rattle.session_rules.specs.declared.Side.TheVariants.{Proof}
+use Rattle.std.specs.Prelude.{◌≡◌, ℕ, ◌+◌, ⊤, true, if◌then◌else◌, List, [], ◌∷◌, ◌++◌, map, drop, count_by, filter_map, Option, None, Some, is_some, IsSome, option_and_then}
+use Rattle.session_rules.specs.declared.Side.TheVariants.{Interaction, Proof}
 use Rattle.session_rules.specs.declared.Event.{Event}
 use Rattle.session_rules.specs.declared.Rule.{Rule}
 use Rattle.session_rules.specs.declared.Verdict.{Verdict}
+use Rattle.session_rules.specs.declared.Verdict.TheVariants.{Accepted, Refused}
 use Rattle.session_rules.specs.Lines.{Line, lines, end_line}
 use Rattle.session_rules.specs.Reading.{values_of, steps_of, header_fault}
 use Rattle.session_rules.specs.History.{query_of, assumed}
 use Rattle.session_rules.specs.Pair.{ProofForm, refusals, step_partners, step_matches, faults_from, pair_refusals, is_query, unfinished, surplus, verdict_by}
 use Rattle.pair_matcher.specs.declared.checking.Position.{Position}
-use Rattle.slice_tokens.specs.Place.{Place, WhereTold, ahead, later, is_cut, last_line}
+use Rattle.slice_tokens.specs.Place.{Place, WhereTold, ahead, later, is_cut}
+use Rattle.pair_matcher.specs.Taken.{IsWithin}
 
 -- ---- The bytes of both streams
 
@@ -38,13 +40,13 @@ pub record CutComes (place : Place) (bytes : List ℕ) : Type 0 where
 pub record IsBehindHeader (name : List ℕ) (all : List ℕ) (place : Place) (bytes : List ℕ) : Type 0 where
   pub kept : header_fault name all ≡ None
   pub lines : drop 1 (lines all) ≡ later place bytes
-  pub last : last_line place bytes ≡ end_line all
+  pub within : IsWithin all place bytes
   pub cut : CutComes place bytes
 
 -- what passing over a header answers: the rule that it breaks at the window's line, or none
 abbrev pub PassesHeader : List ℕ → Option Rule → List ℕ → Place → List ℕ → Type 0
 PassesHeader name None all place bytes = IsBehindHeader name all place bytes
-PassesHeader name (Some r) all place bytes = header_fault name all ≡ Some (place.line, r)
+PassesHeader name (Some r) all place bytes = (header_fault name all ≡ Some (place.line, r)) × IsWithin all place bytes
 
 -- the stream tells its bytes, and its header is broken
 pub record HasBrokenHeader (name : List ℕ) (left : Option (List ℕ)) : Type 0 where
@@ -81,7 +83,8 @@ pub record Checking {S : Type 0} (form : ProofForm S) (stands : List S → Type 
   pub behind : stands steps
   pub faults : pair_refusals form a b ≡ faults_from form steps (end_line b) (later at.proof tb) (later at.interaction ta)
   pub count : all_queries form b ≡ at.queries + queries_in form (later at.proof tb)
-  pub last : last_line at.proof tb ≡ end_line b
+  pub interaction_within : IsWithin a at.interaction ta
+  pub proof_within : IsWithin b at.proof tb
   pub interaction_cut : CutComes at.interaction ta
   pub proof_cut : CutComes at.proof tb
 
@@ -93,7 +96,8 @@ pub record AtStep {S : Type 0} (form : ProofForm S) (stands : List S → Type 0)
       ++ step_matches form (assumed (filter_map form.event steps)) at.proof.line (form.event step) (later at.interaction ta)
       ++ faults_from form (steps ++ step ∷ []) (end_line b) (later at.proof tb) (drop (step_partners form (form.event step) (later at.interaction ta)) (later at.interaction ta))
   pub count : all_queries form b ≡ at.queries + (query_count (form.event step) + queries_in form (later at.proof tb))
-  pub last : last_line at.proof tb ≡ end_line b
+  pub interaction_within : IsWithin a at.interaction ta
+  pub proof_within : IsWithin b at.proof tb
   pub interaction_cut : CutComes at.interaction ta
   pub proof_cut : CutComes at.proof tb
 
@@ -105,7 +109,8 @@ pub record AtEvent {S : Type 0} (form : ProofForm S) (stands : List S → Type 0
   pub faults : pair_refusals form a b ≡ step_matches form (assumed (filter_map form.event steps)) at.proof.line event (later at.interaction ta)
       ++ faults_from form steps (end_line b) (later at.proof tb) (drop (step_partners form event (later at.interaction ta)) (later at.interaction ta))
   pub count : all_queries form b ≡ at.queries + (query_count event + queries_in form (later at.proof tb))
-  pub last : last_line at.proof tb ≡ end_line b
+  pub interaction_within : IsWithin a at.interaction ta
+  pub proof_within : IsWithin b at.proof tb
   pub interaction_cut : CutComes at.interaction ta
   pub proof_cut : CutComes at.proof tb
 
@@ -115,19 +120,29 @@ pub record AtProofEnd {S : Type 0} (form : ProofForm S) (stands : List S → Typ
   pub behind : stands steps
   pub faults : pair_refusals form a b ≡ unfinished (filter_map form.event steps) at.proof.line ++ surplus (later at.interaction ta)
   pub count : all_queries form b ≡ at.queries
+  pub interaction_within : IsWithin a at.interaction ta
+  pub proof_within : IsWithin b at.proof tb
   pub interaction_cut : CutComes at.interaction ta
 
 -- and no query is open
 pub record AtSurplus {S : Type 0} (form : ProofForm S) (at : Position) (a ta b tb : List ℕ) : Type 0 where
   pub faults : pair_refusals form a b ≡ surplus (later at.interaction ta)
   pub count : all_queries form b ≡ at.queries
+  pub interaction_within : IsWithin a at.interaction ta
   pub interaction_cut : CutComes at.interaction ta
 
--- the verdict, whatever is left of the streams
-abbrev pub IsVerdictOf : {S : Type 0} → ProofForm S → Verdict → List ℕ → List ℕ → List ℕ → List ℕ → Type 0
-IsVerdictOf form v a ta b tb = v ≡ verdict_by form a b
+-- the window over the stream that a refusal names stands in the line that it names
+abbrev pub StandsNamed : Verdict → Position → List ℕ → List ℕ → List ℕ → List ℕ → Type 0
+StandsNamed (Accepted queries) at a ta b tb = ⊤
+StandsNamed (Refused Interaction line rule) at a ta b tb = IsWithin a at.interaction ta × (line ≡ at.interaction.line)
+StandsNamed (Refused Proof line rule) at a ta b tb = IsWithin b at.proof tb × (line ≡ at.proof.line)
+
+-- the verdict, and where it leaves the windows
+pub record IsVerdictOf {S : Type 0} (form : ProofForm S) (v : Verdict) (at : Position) (a ta b tb : List ℕ) : Type 0 where
+  pub is : v ≡ verdict_by form a b
+  pub named : StandsNamed v at a ta b tb
 
 -- what one turn of the check answers: the verdict, or none, and the check goes on
 abbrev pub Turns : {S : Type 0} → ProofForm S → (List S → Type 0) → Option Verdict → Position → List ℕ → List ℕ → List ℕ → List ℕ → Type 0
 Turns form stands None at a ta b tb = Checking form stands at a ta b tb
-Turns form stands (Some v) at a ta b tb = IsVerdictOf form v a ta b tb
+Turns form stands (Some v) at a ta b tb = IsVerdictOf form v at a ta b tb

@@ -1,4 +1,5 @@
 pub mod Turns
 pub mod Sides
 pub mod Inside
+pub mod Taken
 pub mod Checks

@@ -9,6 +9,7 @@ ghost use Rattle.session_rules.specs.History.{event_literals};
 ghost use Rattle.session_rules.specs.Pair.{verdict, verdict_by};
 ghost use Rattle.slice_tokens.specs.Place.{at_start, ahead, WhereTold};
 ghost use Rattle.slice_tokens.specs.Calls.{Moves};
+ghost use Rattle.pair_matcher.specs.Taken.{TakenBy};
 ghost use Rattle.pair_matcher.specs.Checks.{BothTold, BothTell, HasBrokenHeader, IsBehindHeader, PassesHeader, Knows, IsVerdictOf, query_count, Checking, AtStep, AtEvent, AtProofEnd, AtSurplus, Turns};
 
 use crate::idrup::IdrupSide;
@@ -199,7 +200,7 @@ fn take_surplus<A: Source, P: ProofSide>(
 ) -> Result<Verdict, CheckFault>
     ensures told { IfOk result (λ v. (a b tb : Option (List ℕ))
         → BothTold a (ahead c.old.at.interaction (A.left interaction.old)) b tb (AtSurplus P.form c.old.at)
-        → BothTold a (ahead c.new.at.interaction (A.left interaction.new)) b tb (IsVerdictOf P.form v)) }
+        → BothTold a (ahead c.new.at.interaction (A.left interaction.new)) b tb (IsVerdictOf P.form v c.new.at)) }
     ensures place { c.new.at.proof ≡ c.old.at.proof }
     ensures count { A.faults interaction.old ≤ A.faults interaction.new }
     ensures read { IsErrOf result CheckFault.ReadInteraction → Rose (A.faults interaction.old) (A.faults interaction.new) }
@@ -231,7 +232,7 @@ fn take_end<A: Source, P: ProofSide>(
 ) -> Result<Verdict, CheckFault>
     ensures told { IfOk result (λ v. (a b tb : Option (List ℕ))
         → BothTold a (ahead c.old.at.interaction (A.left interaction.old)) b tb (AtProofEnd P.form (P.stands c.old.side) c.old.at)
-        → BothTold a (ahead c.new.at.interaction (A.left interaction.new)) b tb (IsVerdictOf P.form v)) }
+        → BothTold a (ahead c.new.at.interaction (A.left interaction.new)) b tb (IsVerdictOf P.form v c.new.at)) }
     ensures place { c.new.at.proof ≡ c.old.at.proof }
     ensures count { A.faults interaction.old ≤ A.faults interaction.new }
     ensures read { IsErrOf result CheckFault.ReadInteraction → Rose (A.faults interaction.old) (A.faults interaction.new) }
@@ -293,7 +294,7 @@ fn take_lines<A: Source, B: Source, P: ProofSide>(
     requires queries { c.old.at.queries ≤ c.old.at.proof.passed }
     requires bound { c.old.at.proof.passed ≤ 2 ^ 62 }
     ensures told { IfOk result (λ v. (a b : Option (List ℕ)) → Knows a b (A.left interaction.old) (B.left proof.old) c.old.at (Checking P.form (P.stands c.old.side))
-        → Knows a b (A.left interaction.new) (B.left proof.new) c.new.at (λ at. IsVerdictOf P.form v)) }
+        → Knows a b (A.left interaction.new) (B.left proof.new) c.new.at (IsVerdictOf P.form v)) }
     ensures interaction_count { A.faults interaction.old ≤ A.faults interaction.new }
     ensures proof_count { B.faults proof.old ≤ B.faults proof.new }
     ensures read_interaction { IsErrOf result CheckFault.ReadInteraction → Rose (A.faults interaction.old) (A.faults interaction.new) }
@@ -321,6 +322,9 @@ fn check_behind<A: Source, B: Source, P: ProofSide>(
     ensures verdict { IfOk result (λ v. (a b : List ℕ) → (left : Option (List ℕ))
         → WhereTold left (ahead interaction_window (A.left interaction.old)) (λ all rest. IsBehindHeader (codes "icnf") all interaction_window rest)
         → BothTell left (B.left proof.old) a b → v ≡ verdict_by P.form a b) }
+    ensures taken { IfOk result (λ v. (a b : List ℕ) → (left : Option (List ℕ))
+        → WhereTold left (ahead interaction_window (A.left interaction.old)) (λ all rest. IsBehindHeader (codes "icnf") all interaction_window rest)
+        → BothTell left (B.left proof.old) a b → TakenBy v a b (A.left interaction.new) (B.left proof.new)) }
     ensures interaction_count { A.faults interaction.old ≤ A.faults interaction.new }
     ensures proof_count { B.faults proof.old ≤ B.faults proof.new }
     ensures read_interaction { IsErrOf result CheckFault.ReadInteraction → Rose (A.faults interaction.old) (A.faults interaction.new) }
@@ -331,7 +335,10 @@ fn check_behind<A: Source, B: Source, P: ProofSide>(
     };
     match pass_header(&mut proof_window, proof, name) {
         Ok(None) => {}
-        Ok(Some(rule)) => return Ok(refused(Side::Proof, proof_window.line(), rule)),
+        Ok(Some(rule)) => {
+            proof_window.recall_bounds();
+            return Ok(refused(Side::Proof, proof_window.line(), rule));
+        }
         Err(Failed) => return Err(CheckFault::ReadProof),
     }
     let Ok(side) = P::start(alloc) else {
@@ -348,7 +355,11 @@ fn check_behind<A: Source, B: Source, P: ProofSide>(
         spare: Spare::new(alloc),
     };
     match take_lines(&mut check, interaction, proof) {
-        Ok(verdict) => Ok(verdict),
+        Ok(verdict) => {
+            check.at.interaction.recall_bounds();
+            check.at.proof.recall_bounds();
+            Ok(verdict)
+        }
         Err(fault) => Err(fault),
     }
 }
@@ -363,6 +374,7 @@ fn check_by<A: Source, B: Source, P: ProofSide>(
     requires name { name.now ≡ P.form.name }
     requires short { length name.now ≤ 32 }
     ensures verdict { IfOk result (λ v. (a b : List ℕ) → BothTell (A.left interaction.old) (B.left proof.old) a b → v ≡ verdict_by P.form a b) }
+    ensures taken { IfOk result (λ v. (a b : List ℕ) → BothTell (A.left interaction.old) (B.left proof.old) a b → TakenBy v a b (A.left interaction.new) (B.left proof.new)) }
     ensures header { HasBrokenHeader (codes "icnf") (A.left interaction.old) → proof.new ≡ proof.old }
     ensures interaction_count { A.faults interaction.old ≤ A.faults interaction.new }
     ensures proof_count { B.faults proof.old ≤ B.faults proof.new }
@@ -374,7 +386,10 @@ fn check_by<A: Source, B: Source, P: ProofSide>(
     };
     match pass_header(&mut window, interaction, b"icnf") {
         Ok(None) => {}
-        Ok(Some(rule)) => return Ok(refused(Side::Interaction, window.line(), rule)),
+        Ok(Some(rule)) => {
+            window.recall_bounds();
+            return Ok(refused(Side::Interaction, window.line(), rule));
+        }
         Err(Failed) => return Err(CheckFault::ReadInteraction),
     }
     match check_behind::<A, B, P>(alloc, name, window, interaction, proof) {
@@ -386,7 +401,8 @@ fn check_by<A: Source, B: Source, P: ProofSide>(
 /// The verdict on an interaction and a proof of this form. Each file is read once, from its start, and at most 2^62 bytes of it;
 /// the room grows with the clauses that are active or weakened, the inputs, and the longest line.
 ///
-/// The interaction's header is judged first: where it is broken, no byte of the proof is asked for.
+/// The interaction's header is judged first: where it is broken, no byte of the proof is asked for. Of the file that a refusal
+/// names, at most 65,536 bytes behind the line that it names were taken.
 ///
 /// # Errors
 ///
@@ -399,6 +415,7 @@ pub fn check_pair<A: Source, B: Source>(
     proof: &mut B,
 ) -> Result<Verdict, CheckFault>
     ensures verdict { IfOk result (λ v. (a b : List ℕ) → BothTell (A.left interaction.old) (B.left proof.old) a b → v ≡ verdict form a b) }
+    ensures taken { IfOk result (λ v. (a b : List ℕ) → BothTell (A.left interaction.old) (B.left proof.old) a b → TakenBy v a b (A.left interaction.new) (B.left proof.new)) }
     ensures header { HasBrokenHeader (codes "icnf") (A.left interaction.old) → proof.new ≡ proof.old }
     ensures interaction_count { A.faults interaction.old ≤ A.faults interaction.new }
     ensures proof_count { B.faults proof.old ≤ B.faults proof.new }

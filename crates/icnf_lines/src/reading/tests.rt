@@ -1,7 +1,7 @@
 // Texts that are read in pieces and written again, and broken lines with the rule of each.
 ghost use Rattle.std.specs.Prelude.{◌<◌};
 
-use crate::{read_header, read_line, write_line};
+use crate::{read_header, read_line, read_script_line, write_line};
 use line_reading::Spare;
 use outside::{MemorySink, MemorySource};
 use session_rules::{LineFault, Rule};
@@ -127,5 +127,33 @@ fn broken_lines_are_refused_in_single_bytes(rt: HostRuntime) -> Result<(), Fail>
         assert_eq!(rt; answer, (Some(LineFault::Syntax(rule)), 5), "{line}");
         assert_eq!(rt; sink.bytes(), b"q 1 0\n".as_slice(), "{line}");
     }
+    Ok(())
+}
+
+// The second line of a script whose first is `q 1 0`, in pieces of one byte: whether it is there, or how it fails.
+fn second_of_script(alloc: Global, line: &[u8]) -> Result<Result<bool, LineFault>, AllocError> {
+    let mut text = b"q 1 0\n".to_vec(alloc)?;
+    text.extend_from_slice(line)?;
+    let mut pieces = Vec::new(alloc);
+    for byte in text.chunks(1) {
+        pieces.push(byte.to_vec(alloc)?)?;
+    }
+    let mut source = MemorySource::new(pieces, Vec::new(alloc));
+    let mut window = Window::new(alloc)?;
+    let mut spare = Spare::new(alloc);
+    let _ = read_script_line(&mut spare, &mut window, &mut source);
+    match read_script_line(&mut spare, &mut window, &mut source) {
+        Ok(event) => Ok(Ok(event.is_some())),
+        Err(fault) => Ok(Err(fault)),
+    }
+}
+
+#[test]
+fn a_script_has_inputs_and_queries_alone(rt: HostRuntime) -> Result<(), Fail> {
+    let alloc = rt.alloc();
+    assert_eq!(rt; second_of_script(alloc, b"")?, Ok(false));
+    assert_eq!(rt; second_of_script(alloc, b"c\n i -3 0")?, Ok(true));
+    let letter = Err(LineFault::Syntax(Rule::Letter));
+    assert_eq!(rt; second_of_script(alloc, b"s SATISFIABLE")?, letter);
     Ok(())
 }

@@ -1,4 +1,4 @@
-use Rattle.idrup_cli.proofs.Endings.{certifies, refuses, accepts, completes}
+use Rattle.idrup_cli.proofs.Endings.{certifies, refuses, accepts, takes, completes}
 use Rattle.idrup_cli.proofs.top.run.Goals as goal
 
 pub returns-clause-certified : goal.returns-clause-certified
@@ -17,3 +17,7 @@ pub returns-clause-complete : goal.returns-clause-complete
 returns-clause-complete g c =
     completes c.tell.result (g.E.Sink.written c.args.report.now) (g.E.Sink.written c.tell.new.report) _ _ _ _ _ (g.E.Sink.faults c.args.report.now, g.E.Sink.faults c.tell.new.report)
     c.ending_of-ending.result c.ending_of-ending.ensures.cause c.tell.ensures.same c.tell.ensures.fault
+
+pub returns-clause-taken : goal.returns-clause-taken
+returns-clause-taken g c =
+    takes c.tell.result (g.E.Sink.written c.args.report.now) (g.E.Sink.written c.tell.new.report) _ _ _ _ _ _ _ c.ending_of-ending.result c.ending_of-ending.ensures.cause c.tell.ensures.same c.ending_of-ending.ensures.taken
