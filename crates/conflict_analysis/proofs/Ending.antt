@@ -23,7 +23,7 @@ use Rattle.conflict_analysis.specs.Marked.{is_pending, pending, IsClear}
 use Rattle.conflict_analysis.specs.Walking.{IsClauseAt, IsActive, IsOpen, IsMarked, IsSearching, IsWalking, IsLemma, lower_trail, is_top, count_top}
 use Rattle.conflict_analysis.proofs.Stepping.{count-none, none-counted, pending-neg}
 
-take_none : (xs : List TrailEntry) → take 0 xs ≡ []
+pub take_none : (xs : List TrailEntry) → take 0 xs ≡ []
 take_none [] = refl
 take_none (x ∷ xs) = refl
 

@@ -51,7 +51,7 @@ pub record Below (e : EngineView) (i l : ℕ) : Type 0 where
   pub behind : drop i e.trail ≡ after
   pub lit : step.lit ≡ l
 
-default_same : (ls : List ℕ) (i d x : ℕ) → i < length ls → get_or ls i d ≡ get_or ls i x
+pub default_same : (ls : List ℕ) (i d x : ℕ) → i < length ls → get_or ls i d ≡ get_or ls i x
 default_same [] i d x lt = absurd (omega arith)
 default_same (y ∷ ls) zero d x lt = refl
 default_same (y ∷ ls) (suc i) d x lt = default_same ls i d x (omega arith)
@@ -152,12 +152,12 @@ module _ (e : EngineView) (k : IsEngine e) (i l : ℕ) (b : Below e i l) where
       let n = subst (λ z. AreNew e.vars z) b.split (new_entries e k) in
       sym (reason_at e.vars (take (i - 1) e.trail) b.after b.step n) ∙ ap (λ z. reason_in z b.step.lit) (sym b.split) ∙ ap (reason_in e.trail) b.lit ∙ h
 
-  none_here : reason_in e.trail l ≡ None → b.step.reason ≡ None
+  pub none_here : reason_in e.trail l ≡ None → b.step.reason ≡ None
   none_here h =
       let n = subst (λ z. AreNew e.vars z) b.split (new_entries e k) in
       sym (reason_at e.vars (take (i - 1) e.trail) b.after b.step n) ∙ ap (λ z. reason_in z b.step.lit) (sym b.split) ∙ ap (reason_in e.trail) b.lit ∙ h
 
-  forced_here : (s id : ℕ) (c : List ℕ) → reason_in e.trail l ≡ Some s → IsClauseAt e s id c → IsForcedBy e.clauses b.step id c
+  pub forced_here : (s id : ℕ) (c : List ℕ) → reason_in e.trail l ≡ Some s → IsClauseAt e s id c → IsForcedBy e.clauses b.step id c
   forced_here s id c h at = record { slot = s; reason_is = reason_here s h; slot_is = at.slot_is; clause_is = at.clause_is }
 
   -- the other literals of the reason are false by the steps before
@@ -169,13 +169,13 @@ module _ (e : EngineView) (k : IsEngine e) (i l : ℕ) (b : Below e i l) where
   ]
 
   -- the clause of a slot has the id that the store names
-  named : (s id : ℕ) → IsActive e s → slot_of e.clauses id ≡ Some s → (c : List ℕ) × IsClauseAt e s id c
+  pub named : (s id : ℕ) → IsActive e s → slot_of e.clauses id ≡ Some s → (c : List ℕ) × IsClauseAt e s id c
   named s id a h = let same : id ≡ a.0 = k.slots_apart id a.0 s h a.2.slot_is in (a.1, record { slot_is = h; clause_is = ap (active_at e.clauses) same ∙ a.2.clause_is })
 
-  analysed_here : (ms : List Mark) (lemma hints : List ℕ) → IsAnalysed e.clauses (take i e.trail) (pending ms) lemma hints → IsAnalysed e.clauses (take (i - 1) e.trail ++ b.step ∷ []) (pending ms) lemma hints
+  pub analysed_here : (ms : List Mark) (lemma hints : List ℕ) → IsAnalysed e.clauses (take i e.trail) (pending ms) lemma hints → IsAnalysed e.clauses (take (i - 1) e.trail ++ b.step ∷ []) (pending ms) lemma hints
   analysed_here ms lemma hints h = subst (λ z. IsAnalysed e.clauses z (pending ms) lemma hints) b.longer h
 
-  resolved : (ms ns : List Mark) (lemma hints : List ℕ) (s id : ℕ) → IsActive e s → slot_of e.clauses id ≡ Some s → reason_in e.trail l ≡ Some s → IsMarked e ns s → IsMore ms ns
+  pub resolved : (ms ns : List Mark) (lemma hints : List ℕ) (s id : ℕ) → IsActive e s → slot_of e.clauses id ≡ Some s → reason_in e.trail l ≡ Some s → IsMarked e ns s → IsMore ms ns
       → IsAnalysed e.clauses (take i e.trail) (pending ms) lemma (reverse hints) → IsAnalysed e.clauses (take (i - 1) e.trail) (pending ns) lemma (reverse (hints ++ id ∷ []))
   resolved ms ns lemma hints s id a at h marked more an =
       let c = named s id a at in
@@ -263,10 +263,10 @@ module _ (e : EngineView) (k : IsEngine e) (i l : ℕ) (b : Below e i l) where
 
   -- ---- Behind the literal that alone is pending
 
-  front_in : (x : ℕ) → has (literals (take (i - 1) e.trail)) x ≡ true → has (literals (take i e.trail)) x ≡ true
+  pub front_in : (x : ℕ) → has (literals (take (i - 1) e.trail)) x ≡ true → has (literals (take i e.trail)) x ≡ true
   front_in x m = subst (λ z. has (literals z) x ≡ true) (sym b.longer) (has-front (take (i - 1) e.trail) (b.step ∷ []) x m)
 
-  here_in : has (literals (take i e.trail)) l ≡ true
+  pub here_in : has (literals (take i e.trail)) l ≡ true
   here_in = subst (λ z. has (literals (take i e.trail)) z ≡ true) b.lit (subst (λ z. has (literals z) b.step.lit ≡ true) (sym b.longer) (has-back (take (i - 1) e.trail) (b.step ∷ []) b.step.lit (has-first b.step [])))
 
   picked_here : (lemma : List ℕ) → IsPicked (take i e.trail) (drop i e.trail) lemma → IsPicked (take (i - 1) e.trail ++ b.step ∷ []) b.after lemma
@@ -336,7 +336,7 @@ module _ (e : EngineView) (k : IsEngine e) (i l : ℕ) (b : Below e i l) where
         | inr y ↦ let opposite : x ≡ neg l = omega (arith, y, q) in both_ways _ f.1 (subst (λ z. has (literals (take (i - 1) e.trail)) z ≡ true) (opposite ∙ ap neg (sym b.lit)) m)
       ]
 
-  left_here : (ns : List Mark) (x : ℕ) → has (literals (take (i - 1) e.trail)) x ≡ true → pending (set ns (l / 2) mark.Clear) x ≡ pending ns x
+  pub left_here : (ns : List Mark) (x : ℕ) → has (literals (take (i - 1) e.trail)) x ≡ true → pending (set ns (l / 2) mark.Clear) x ≡ pending ns x
   left_here ns x m = pending-other ns l x mark.Clear (other_here x m)
 
   pub search_visited : (ns rs : List Mark) (hints : List ℕ) (count : ℕ) → IsSearching e (i - 1) ns hints count → rs ≡ set ns (l / 2) mark.Clear → IsSearching e (i - 1) rs hints count

@@ -1,4 +1,5 @@
-//! Conflict analysis: from a false clause to a lemma with hints, which may be added and asserted at a lower level.
+//! Conflict analysis: from a false clause to a lemma with hints, which may be added and asserted at a lower level; and from a
+//! false clause or a false assumption to a core of what was assumed.
 //!
 //! The trail is walked from its latest entry on. A literal is pending while the clause that the reasons so far give has its
 //! negation. At the present level each pending literal is replaced by the others of its reason, until one alone is left, the
@@ -18,8 +19,10 @@ ghost use Rattle.search_laws.specs.Asserting.{level_below};
 ghost use Rattle.conflict_analysis.specs.Marked.{pending, is_pending, mark_at, IsClear};
 ghost use Rattle.conflict_analysis.specs.Walking.{IsClauseAt, IsActive, IsOpen, IsMarked, IsMore, IsSearching, IsWalking, IsLemma, count_top};
 
+mod cores;
 mod marks;
 
+pub use crate::cores::{core_of_assumption, core_of_conflict};
 pub use crate::marks::{Mark, Marks};
 use clause_store::Slot;
 use lits::Lit;
