@@ -9,6 +9,7 @@ use Rattle.session_rules.specs.Logic.{has, hints_fail}
 use Rattle.lits.proofs.Literal.{neg-neg}
 use Rattle.lits.proofs.Sets.{tautology_from}
 use Rattle.lits.proofs.Members.{here, there, not_in_nil, here_or_there, has_at, has_from}
+use Rattle.propagation.specs.declared.TrailEntry.{TrailEntry}
 use Rattle.propagation.specs.Clauses.{slot_of, active_at}
 use Rattle.propagation.specs.Engine.{EngineView, IsEngine, IsFalseAt, IsOnce, literals, level_after, place_in, reason_in}
 use Rattle.propagation.proofs.Cuts.{take_all}
@@ -200,11 +201,26 @@ pub none_unless : (r : Option ℕ) → ((s : ℕ) → r ≡ Some s → ⊥) → 
 none_unless None h = refl
 none_unless (Some s) h = absurd (h s refl)
 
--- a literal that was assumed is above level 0
+-- the entry of a literal that was assumed
+pub record AssumedEntry (ss : List TrailEntry) (x : ℕ) : Type 0 where
+  pub before : List TrailEntry
+  pub step : TrailEntry
+  pub after : List TrailEntry
+  pub split : ss ≡ before ++ step ∷ after
+  pub lit : step.lit ≡ x
+  pub reason : step.reason ≡ None
+
+pub assumed_entry : (e : EngineView) (x : ℕ) → IsEngine e → IsAssumed e x → AssumedEntry e.trail x
+assumed_entry e x k a =
+    let p = unwrap_or (place_in (literals e.trail) x) 0 in
+    let b = below_place e x p (placed_at e x p (place_in (literals e.trail) x) a.0 refl refl) in
+    record { before = take (suc p - 1) e.trail; step = b.step; after = b.after; split = b.split; lit = b.lit; reason = none_here e k (suc p) x b a.1 }
+
+-- which is above level 0
 assumed_above : (e : EngineView) (x : ℕ) → IsEngine e → IsAssumed e x → level_after e.trail ≡ 0 → ⊥
 assumed_above e x k a none =
-    let b = below_place e x (unwrap_or (place_in (literals e.trail) x) 0) (placed_at e x (unwrap_or (place_in (literals e.trail) x) 0) (place_in (literals e.trail) x) a.0 refl refl) in
-    let f = level_after-assumed (take (suc (unwrap_or (place_in (literals e.trail) x) 0) - 1) e.trail) b.after b.step (none_here e k (suc (unwrap_or (place_in (literals e.trail) x) 0)) x b a.1) in
+    let b = assumed_entry e x k a in
+    let f = level_after-assumed b.before b.after b.step b.reason in
     let g : level_after e.trail ≡ _ = ap level_after b.split ∙ f in
     omega (arith, g, none)
 

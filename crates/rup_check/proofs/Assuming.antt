@@ -24,7 +24,7 @@ module _ {X : Type 0} where
     | inr n ↦ elim (in_append xs ys x n) [ inl f ↦ inl (there y x xs f) | inr f ↦ inr f ]
   ]
 
-  in_middle : (xs ys : List X) (x : X) → Contains (xs ++ x ∷ ys) x
+  pub in_middle : (xs ys : List X) (x : X) → Contains (xs ++ x ∷ ys) x
   in_middle [] ys x = here x ys
   in_middle (y ∷ xs) ys x = there y x (xs ++ x ∷ ys) (in_middle xs ys x)
 

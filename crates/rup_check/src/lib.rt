@@ -5,23 +5,25 @@
 //! exactly where a literal to be assumed is false already, or a clause becomes false. Behind the test the engine is back at
 //! level 0.
 //!
-//! `closes_with` answers with hints, too: the reasons along the trail in their order, and the false clause last. These are
-//! more than are needed, but each is read once, and no search stands behind them.
+//! `closes_with` answers with hints, too: from the false clause, or from the reason of the false literal, back along the trail,
+//! the reasons of the literals that are needed, and no other.
 #![tactic(auto)]
 
-ghost use Rattle.std.specs.Prelude.{◌≡◌, ℕ, ◌≤◌, List, ◌++◌, Contains, All, IsTrue, Bool, true, false, None, IfOk, OnErr, is_some};
+ghost use Rattle.std.specs.Prelude.{◌≡◌, ℕ, ◌≤◌, List, ◌++◌, Contains, All, IsTrue, Bool, true, false, None, IfOk, IfSome, IfNone, OnErr, is_some};
 ghost use Rattle.lits.specs.Literal.{var, neg};
 ghost use Rattle.session_rules.specs.Logic as logic;
 ghost use Rattle.propagation.specs.declared.TrailEntry.{TrailEntry};
 ghost use Rattle.propagation.specs.Clauses.{active, active_at, slot_of};
-ghost use Rattle.propagation.specs.Engine.{literals, level_after, Grows, IsEngine, IsFalseAt, ReasonsAre, IsOnce};
-ghost use Rattle.rup_check.specs.Assuming.{Assumes, EndsAt};
+ghost use Rattle.propagation.specs.Engine.{literals, level_after, Grows, IsEngine, IsOnce};
+ghost use Rattle.rup_check.specs.Assuming.{Assumes, IsFalseOf};
 
-use clause_store::Slot;
+mod tracing;
+
+pub use crate::tracing::Tracer;
 use lits::Lit;
 use propagation::Engine;
 use session_rules::Ids;
-use std::alloc::{AllocError, Global};
+use std::alloc::AllocError;
 
 /// Whether there is a closing sequence of the active clauses from these literals.
 pub fn closes(engine: &mut Engine, start: &[Lit]) -> bool
@@ -39,7 +41,7 @@ pub fn closes(engine: &mut Engine, start: &[Lit]) -> bool
     closed
 }
 
-/// Assumes each of the literals that is free, until one is false.
+/// Assumes each of the literals that is free, until one is false. Whether one is.
 fn assume_each(engine: &mut Engine, start: &[Lit]) -> bool
     requires { (l : ℕ) → Contains start.now l → var l ≤ engine.old.vars }
     ensures assumed { Assumes start.now engine.old engine.new }
@@ -49,44 +51,31 @@ fn assume_each(engine: &mut Engine, start: &[Lit]) -> bool
     ensures each { result ≡ false
         → (l : ℕ) → Contains start.now l → IsTrue (logic.has (literals engine.new.trail) l) }
 {
+    assume_until_false(engine, start).is_some()
+}
+
+/// Assumes each of the literals that is free, until one is false, which is the answer.
+fn assume_until_false(engine: &mut Engine, start: &[Lit]) -> Option<Lit>
+    requires { (l : ℕ) → Contains start.now l → var l ≤ engine.old.vars }
+    ensures assumed { Assumes start.now engine.old engine.new }
+    ensures opposite { IfSome result (IsFalseOf start.now engine.new) }
+    ensures each { IfNone result ((l : ℕ) → Contains start.now l → IsTrue (logic.has (literals engine.new.trail) l)) }
+{
     for l in start {
         match engine.value(*l) {
             Some(true) => {}
-            Some(false) => return true,
+            Some(false) => return Some(*l),
             None => engine.assume(*l),
         }
     }
-    false
-}
-
-/// The ids of the reasons along the trail.
-fn reasons(alloc: Global, engine: &Engine) -> Result<Ids, AllocError>
-    ensures { IfOk result (λ ids. ReasonsAre engine.now.clauses engine.now.trail ids) }
-{
-    let mut ids = Ids::new(alloc);
-    for l in engine.trail() {
-        if let Some(slot) = engine.reason(*l) {
-            ids.push(engine.store().id_of(slot))?;
-        }
-    }
-    Ok(ids)
-}
-
-/// These, and the id of a false clause.
-fn conflict(alloc: Global, engine: &Engine, slot: Slot) -> Result<Ids, AllocError>
-    requires { IsFalseAt engine.now slot }
-    ensures { IfOk result (λ ids. EndsAt engine.now slot ids) }
-{
-    let mut ids = reasons(alloc, engine)?;
-    ids.push(engine.store().id_of(slot))?;
-    Ok(ids)
+    None
 }
 
 /// As `closes`; where there is a closing sequence the hints become ids of active clauses that close, none of them twice.
 /// Else, and where memory is wanting, they stay.
 pub fn closes_with(
-    alloc: Global,
     engine: &mut Engine,
+    tracer: &mut Tracer,
     start: &[Lit],
     hints: &mut Ids,
 ) -> Result<bool, AllocError>
@@ -102,21 +91,21 @@ pub fn closes_with(
     ensures err { OnErr result (hints.new ≡ hints.old) }
     ensures frame { Grows engine.old engine.new }
 {
+    tracer.reserve(engine.vars())?;
     if let Some(slot) = engine.propagate() {
-        let found = conflict(alloc, engine, slot)?;
-        *hints = found;
+        tracer.conflict(engine, slot, hints)?;
         return Ok(true);
     }
-    if assume_each(engine, start) {
-        let found = reasons(alloc, engine);
+    if let Some(l) = assume_until_false(engine, start) {
+        let traced = tracer.assumption(engine, l, hints);
         engine.back_to(0);
-        *hints = found?;
+        traced?;
         return Ok(true);
     }
     if let Some(slot) = engine.propagate() {
-        let found = conflict(alloc, engine, slot);
+        let traced = tracer.conflict(engine, slot, hints);
         engine.back_to(0);
-        *hints = found?;
+        traced?;
         return Ok(true);
     }
     engine.back_to(0);

@@ -3,7 +3,7 @@
 ghost use Rattle.std.specs.Prelude.{◌≡◌, ℕ, ◌≤◌, [], Contains, IfOk};
 ghost use Rattle.lits.specs.Literal.{var};
 
-use crate::{closes, closes_with};
+use crate::{Tracer, closes, closes_with};
 use lits::Lit;
 use propagation::Engine;
 use session_rules::Ids;
@@ -57,8 +57,8 @@ fn close(engine: &mut Engine, a: i64, b: i64) -> bool
 
 // Whether a literal closes, with hints. The trail is emptied before.
 fn close_with(
-    alloc: Global,
     engine: &mut Engine,
+    tracer: &mut Tracer,
     n: i64,
     hints: &mut Ids,
 ) -> Result<bool, AllocError>
@@ -66,7 +66,7 @@ fn close_with(
     ensures { engine.new.vars ≡ 9 }
 {
     engine.clear();
-    closes_with(alloc, engine, &[lit(n)], hints)
+    closes_with(engine, tracer, &[lit(n)], hints)
 }
 
 // Clause 1 is `1 2`, and clause 2 is `-1 2`.
@@ -126,15 +126,17 @@ fn contradicting_units_and_the_empty_clause_close(rt: HostRuntime) -> Result<(),
     Ok(())
 }
 
+// Clause 3 is `-1 3`; that 3 follows, too, is needed by no hint.
 #[test]
 fn hints_are_the_clauses_that_close(rt: HostRuntime) -> Result<(), Fail> {
     let mut engine = two_clauses(rt.alloc())?;
-    assert!(rt; add(&mut engine, 3, 5, 6));
+    assert!(rt; add(&mut engine, 3, -1, 3));
+    let mut tracer = Tracer::new(rt.alloc());
     let mut hints = Ids::new(rt.alloc());
     hints.push(7)?;
-    assert!(rt; !close_with(rt.alloc(), &mut engine, 2, &mut hints)?);
+    assert!(rt; !close_with(&mut engine, &mut tracer, 2, &mut hints)?);
     assert_eq!(rt; hints.as_slice(), [7].as_slice());
-    assert!(rt; close_with(rt.alloc(), &mut engine, -2, &mut hints)?);
+    assert!(rt; close_with(&mut engine, &mut tracer, -2, &mut hints)?);
     assert_eq!(rt; hints.len(), 2);
     assert!(rt; hints.as_slice().contains(&1));
     assert!(rt; hints.as_slice().contains(&2));
@@ -194,7 +196,8 @@ fn a_clause_of_a_thousand_and_one_literals_is_the_only_hint(rt: HostRuntime) -> 
     assert!(rt; add_wide(&mut engine, &lits));
     let start = thousand_and_one(rt.alloc(), true)?;
     let mut hints = Ids::new(rt.alloc());
-    assert!(rt; closes_with(rt.alloc(), &mut engine, &start, &mut hints)?);
+    let mut tracer = Tracer::new(rt.alloc());
+    assert!(rt; closes_with(&mut engine, &mut tracer, &start, &mut hints)?);
     assert_eq!(rt; hints.as_slice(), [5].as_slice());
     Ok(())
 }
@@ -204,7 +207,8 @@ fn opposite_literals_need_no_hint(rt: HostRuntime) -> Result<(), Fail> {
     let mut engine = nine(rt.alloc())?;
     let mut hints = Ids::new(rt.alloc());
     hints.push(7)?;
-    assert!(rt; closes_with(rt.alloc(), &mut engine, &[lit(3), lit(-3)], &mut hints)?);
+    let mut tracer = Tracer::new(rt.alloc());
+    assert!(rt; closes_with(&mut engine, &mut tracer, &[lit(3), lit(-3)], &mut hints)?);
     assert_eq!(rt; hints.len(), 0);
     Ok(())
 }

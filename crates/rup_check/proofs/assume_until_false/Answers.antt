@@ -6,8 +6,8 @@ use Rattle.propagation.specs.Engine.{literals}
 use Rattle.propagation.proofs.Scan.{contains_at, index_of}
 use Rattle.rup_check.specs.Assuming.{Assumes}
 use Rattle.rup_check.proofs.Assuming.{Assumes-none, Assumes-entry, value_true, value_false, has-entry, has-step_new}
-use Rattle.rup_check.proofs.assume_each.Goals as goal
-use Rattle.rup_check.proofs.assume_each.Goals.{in-Some-true, in-None}
+use Rattle.rup_check.proofs.assume_until_false.Goals as goal
+use Rattle.rup_check.proofs.assume_until_false.Goals.{in-Some-true, in-None}
 
 pub loop-l-init : goal.loop-l-init
 loop-l-init c = record { assumed = Assumes-none _ _; each = λ k lt. absurd (omega arith) }
@@ -16,12 +16,12 @@ pub returns-in-Some-false-clause-assumed : goal.returns-in-Some-false-clause-ass
 returns-in-Some-false-clause-assumed c = c.loop-l.invariant.assumed
 
 pub returns-in-Some-false-clause-opposite : goal.returns-in-Some-false-clause-opposite
-returns-in-Some-false-clause-opposite c = λ t.
-    let item : get_or c.args.start.now c.loop-l.l-index 0 ≡ c.l-item.result = get_or_default _ _ 0 c.l-item.result c.loop-l-test.true ∙ sym c.l-item.is in (
-      c.l-item.result,
-      subst (λ z. Contains c.args.start.now z) item (contains_at c.args.start.now c.loop-l.l-index c.loop-l-test.true),
-      value_false (literals c.loop-l.engine.trail) c.l-item.result (sym (ap (λ b. Some b) c.in-Some-false.field-0-test) ∙ c.in-Some-false.ensures.value),
-    )
+returns-in-Some-false-clause-opposite c =
+    let item : get_or c.args.start.now c.loop-l.l-index 0 ≡ c.l-item.result = get_or_default _ _ 0 c.l-item.result c.loop-l-test.true ∙ sym c.l-item.is in record {
+      engine = c.in-Some-false.ensures.sound;
+      member = subst (λ z. Contains c.args.start.now z) item (contains_at c.args.start.now c.loop-l.l-index c.loop-l-test.true);
+      opposite = value_false (literals c.loop-l.engine.trail) c.l-item.result (sym (ap (λ b. Some b) c.in-Some-false.field-0-test) ∙ c.in-Some-false.ensures.value);
+    }
 
 pub assume-requires-clause-reserved : goal.assume-requires-clause-reserved
 assume-requires-clause-reserved c =
@@ -53,5 +53,5 @@ pub returns-clause-assumed : goal.returns-clause-assumed
 returns-clause-assumed c = c.loop-l.invariant.assumed
 
 pub returns-clause-each : goal.returns-clause-each
-returns-clause-each c = λ f l m. let r = index_of c.args.start.now l m in
+returns-clause-each c = λ l m. let r = index_of c.args.start.now l m in
     subst (λ z. has (literals c.loop-l.engine.trail) z ≡ true) r.2 (c.loop-l.invariant.each r.0 (omega (arith, r.1, c.loop-l-test.false)))
