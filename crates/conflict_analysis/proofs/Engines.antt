@@ -141,6 +141,32 @@ taken_all (y ∷ ls) (suc i) x h m = elim (here_or_there y x ls m) [
 pub taken_more : (ls : List ℕ) (i x y : ℕ) → i < length ls → x ≡ get_or ls i x → Contains (take (i + 1) ls) y → Contains (take i ls) y ⊎ (y ≡ x)
 taken_more ls i x y lt is m = append_either (take i ls) x y (subst (λ z. Contains z y) (take_more ls i x lt ∙ ap (λ z. take i ls ++ z ∷ []) (sym is)) m)
 
+pub taken_front : (ls : List ℕ) (i x y : ℕ) → i < length ls → x ≡ get_or ls i x → Contains (take i ls) y → Contains (take (i + 1) ls) y
+taken_front ls i x y lt is m = subst (λ z. Contains z y) (sym (take_more ls i x lt ∙ ap (λ z. take i ls ++ z ∷ []) (sym is))) (append_front (take i ls) x y m)
+  where
+    append_front : (xs : List ℕ) (x y : ℕ) → Contains xs y → Contains (xs ++ x ∷ []) y
+    append_front [] x y m = absurd (not_in_nil y m)
+    append_front (z ∷ xs) x y m = elim (here_or_there z y xs m) [
+      | inl q ↦ subst (λ w. Contains (z ∷ (xs ++ x ∷ [])) w) q (here z (xs ++ x ∷ []))
+      | inr n ↦ there z y (xs ++ x ∷ []) (append_front xs x y n)
+    ]
+
+pub taken_item : (ls : List ℕ) (i x : ℕ) → i < length ls → x ≡ get_or ls i x → Contains (take (i + 1) ls) x
+taken_item ls i x lt is = subst (λ z. Contains z x) (sym (take_more ls i x lt ∙ ap (λ z. take i ls ++ z ∷ []) (sym is))) (append_back (take i ls) x)
+  where
+    append_back : (xs : List ℕ) (x : ℕ) → Contains (xs ++ x ∷ []) x
+    append_back [] x = here x []
+    append_back (z ∷ xs) x = there z x (xs ++ x ∷ []) (append_back xs x)
+
+pub taken_in : (ls : List ℕ) (i x : ℕ) → Contains (take i ls) x → Contains ls x
+taken_in [] zero x m = m
+taken_in [] (suc i) x m = m
+taken_in (y ∷ ls) zero x m = absurd (not_in_nil x m)
+taken_in (y ∷ ls) (suc i) x m = elim (here_or_there y x (take i ls) m) [
+  | inl q ↦ subst (λ z. Contains (y ∷ ls) z) q (here y ls)
+  | inr n ↦ there y x ls (taken_in ls i x n)
+]
+
 pub clause_has : (ls c : List ℕ) (x : ℕ) → ((l : ℕ) → has ls l ≡ has c l) → Contains ls x → Contains c x
 clause_has ls c x same m = has_at c x (sym (same x) ∙ has_from ls x m)
 

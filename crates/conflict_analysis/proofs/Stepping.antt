@@ -328,7 +328,7 @@ module _ (e : EngineView) (k : IsEngine e) (i l : ℕ) (b : Below e i l) where
 
   -- ---- The visited entry's mark is taken off
 
-  other_here : (x : ℕ) → has (literals (take (i - 1) e.trail)) x ≡ true → x / 2 ≡ l / 2 → ⊥
+  pub other_here : (x : ℕ) → has (literals (take (i - 1) e.trail)) x ≡ true → x / 2 ≡ l / 2 → ⊥
   other_here x m q =
       let f = (k.entries (take (i - 1) e.trail) b.after b.step b.split).free in
       elim (cases_eq x l) [

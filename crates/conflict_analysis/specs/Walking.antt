@@ -1,5 +1,5 @@
 -- An analysis that goes down the trail.
-use Rattle.std.specs.Prelude.{◌≡◌, ℕ, ◌-◌, ◌<◌, ◌≤◌, Bool, true, false, not, ◌&&◌, ◌⊎◌, List, [], ◌∷◌, length, take, drop, filter, map, reverse, Contains, Some, None, IsTrue, is_some}
+use Rattle.std.specs.Prelude.{◌≡◌, ℕ, ◌-◌, ◌/◌, ◌<◌, ◌≤◌, Bool, true, false, not, ◌&&◌, ◌⊎◌, List, [], ◌∷◌, length, take, drop, filter, map, reverse, Contains, Some, None, IsTrue, is_some}
 use Rattle.lits.specs.Literal.{neg}
 use Rattle.session_rules.specs.Logic.{has, hints_fail}
 use Rattle.propagation.specs.declared.TrailEntry.{TrailEntry}
@@ -38,6 +38,10 @@ IsOpen e ms place slot = (id : ℕ) (c : List ℕ) → IsClauseAt e slot id c �
 -- each literal of the clause is pending
 abbrev pub IsMarked : EngineView → List Mark → ℕ → Type 0
 IsMarked e ms slot = (id : ℕ) (c : List ℕ) → IsClauseAt e slot id c → (m : ℕ) → Contains c m → pending ms m ≡ true
+
+-- the variable is one of the clause's
+abbrev pub IsOfClause : EngineView → ℕ → ℕ → Type 0
+IsOfClause e slot x = (id : ℕ) (c : List ℕ) → IsClauseAt e slot id c → (m : ℕ) × Contains c m × (x / 2 ≡ m / 2)
 
 -- what was pending is pending
 abbrev pub IsMore : List Mark → List Mark → Type 0

@@ -61,6 +61,7 @@ fn trace_conflict(
 ) -> Result<(), AllocError>
     requires conflict { IsFalseAt engine.now conflict }
     requires room { engine.now.vars ≤ length marks.old }
+    requires clear { IsClear marks.old }
     requires no_literals { core.old.items ≡ [] }
     requires no_hints { hints.old.items ≡ [] }
     ensures core { OnOk result (IsCore engine.now [] core.new.items (reverse hints.new.items)) }
@@ -85,6 +86,7 @@ fn trace_assumption(
 ) -> Result<(), AllocError>
     requires fails { IsTrue (has (literals engine.now.trail) (neg l)) }
     requires room { engine.now.vars ≤ length marks.old }
+    requires clear { IsClear marks.old }
     requires no_literals { core.old.items ≡ [] }
     requires no_hints { hints.old.items ≡ [] }
     ensures core { OnOk result (IsCore engine.now (l ∷ []) core.new.items (reverse hints.new.items)) }

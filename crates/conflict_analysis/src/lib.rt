@@ -17,7 +17,7 @@ ghost use Rattle.propagation.specs.Engine.{EngineView, IsEngine, IsFalseAt, lite
 ghost use Rattle.search_laws.specs.Freshness.{AreLevelsPropagated};
 ghost use Rattle.search_laws.specs.Asserting.{level_below};
 ghost use Rattle.conflict_analysis.specs.Marked.{pending, is_pending, mark_at, IsClear};
-ghost use Rattle.conflict_analysis.specs.Walking.{IsClauseAt, IsActive, IsOpen, IsMarked, IsMore, IsSearching, IsWalking, IsLemma, count_top};
+ghost use Rattle.conflict_analysis.specs.Walking.{IsClauseAt, IsActive, IsOpen, IsMarked, IsOfClause, IsMore, IsSearching, IsWalking, IsLemma, count_top};
 
 mod cores;
 mod marks;
@@ -122,6 +122,7 @@ fn mark_one_needed(marks: &mut Marks, m: Lit) -> Result<(), AllocError>
     requires { m / 2 < length marks.old }
     ensures marked { OnOk result (pending marks.new m ≡ true) }
     ensures more { IsMore marks.old marks.new }
+    ensures only { OnOk result ((x : ℕ) → pending marks.new x ≡ true → (pending marks.old x ≡ true) ⊎ (x / 2 ≡ m / 2)) }
     ensures length { length marks.new ≡ length marks.old }
 {
     if marks.at(m).is_pending() {
@@ -136,6 +137,7 @@ fn mark_needed(engine: &Engine, marks: &mut Marks, slot: Slot) -> Result<(), All
     requires active { IsActive engine.now slot }
     requires room { engine.now.vars ≤ length marks.old }
     ensures marked { OnOk result (IsMarked engine.now marks.new slot) }
+    ensures only { OnOk result ((x : ℕ) → pending marks.new x ≡ true → (pending marks.old x ≡ true) ⊎ IsOfClause engine.now slot x) }
     ensures more { IsMore marks.old marks.new }
     ensures length { length marks.new ≡ length marks.old }
 {

@@ -3,12 +3,12 @@ use Rattle.std.proofs.Common.{◌≡◌, ℕ, List, [], ◌∷◌, ◌++◌, Non
 use Rattle.lits.proofs.Members.{not_in_nil, here_or_there, has_at}
 use Rattle.session_rules.specs.Logic.{has, hints_fail}
 use Rattle.propagation.specs.declared.TrailEntry.{TrailEntry}
-use Rattle.propagation.specs.Clauses.{active_at}
+use Rattle.propagation.specs.Clauses.{Clauses, active_at}
 use Rattle.propagation.specs.Engine.{EngineView, IsEngine, with_trail}
 use Rattle.conflict_analysis.specs.Cores.{IsAssumed}
 use Rattle.conflict_analysis.proofs.Tracing.{assumed_entry}
-use Rattle.rup_check.specs.Assuming.{AreTraced}
-use Rattle.rup_check.proofs.Assuming.{AssumesBy, in_middle}
+use Rattle.rup_check.specs.Assuming.{AreTraced, AreFew}
+use Rattle.rup_check.proofs.Assuming.{AssumesBy, from_by, in_middle}
 
 -- an assumed literal is one of those that the trail assumes
 assumed_is_by : (e : EngineView) (ls : List ℕ) (x : ℕ) → IsEngine e → AssumesBy e.trail ls → IsAssumed e x → has ls x ≡ true
@@ -27,3 +27,6 @@ none_given ls x m = absurd (not_in_nil x m)
 
 pub same_hints : (a b : EngineView) (xs : List TrailEntry) (ls ids : List ℕ) → b ≡ with_trail a (a.trail ++ xs) → hints_fail (active_at b.clauses) ls ids ≡ None → hints_fail (active_at a.clauses) ls ids ≡ None
 same_hints a b xs ls ids e r = subst (λ z. hints_fail (active_at z.clauses) ls ids ≡ None) e r
+
+pub traced_few : (e : EngineView) (m : Clauses) (ls given hints : List ℕ) → e.clauses ≡ m → IsEngine e → AssumesBy e.trail ls → AreTraced e given hints → AreFew m ls hints
+traced_few e m ls given hints same k by t = record { engine = e; clauses = same; sound = k; assumes = from_by e.trail ls by; needed = t.1.needed }

@@ -15,7 +15,7 @@ ghost use Rattle.session_rules.specs.Logic as logic;
 ghost use Rattle.propagation.specs.declared.TrailEntry.{TrailEntry};
 ghost use Rattle.propagation.specs.Clauses.{active, active_at, slot_of};
 ghost use Rattle.propagation.specs.Engine.{literals, level_after, Grows, IsEngine, IsOnce};
-ghost use Rattle.rup_check.specs.Assuming.{Assumes, IsFalseOf};
+ghost use Rattle.rup_check.specs.Assuming.{Assumes, AreFew, IsFalseOf};
 
 mod tracing;
 
@@ -71,8 +71,8 @@ fn assume_until_false(engine: &mut Engine, start: &[Lit]) -> Option<Lit>
     None
 }
 
-/// As `closes`; where there is a closing sequence the hints become ids of active clauses that close, none of them twice.
-/// Else, and where memory is wanting, they stay.
+/// As `closes`; where there is a closing sequence the hints become ids of active clauses that close, none of them twice, and none
+/// that isn't needed. Else, and where memory is wanting, they stay.
 pub fn closes_with(
     engine: &mut Engine,
     tracer: &mut Tracer,
@@ -86,6 +86,7 @@ pub fn closes_with(
     ensures once { IfOk result (λ b. IsTrue b → IsOnce hints.new) }
     ensures active { IfOk result (λ b. IsTrue b
         → (id : ℕ) → IsTrue (logic.has hints.new id) → IsTrue (is_some (slot_of engine.old.clauses id))) }
+    ensures few { IfOk result (λ b. IsTrue b → AreFew engine.old.clauses start.now hints.new) }
     ensures complete { IfOk result (λ b. b ≡ false → logic.Closes (active engine.old.clauses) start.now → ⊥) }
     ensures kept { IfOk result (λ b. b ≡ false → hints.new ≡ hints.old) }
     ensures err { OnErr result (hints.new ≡ hints.old) }

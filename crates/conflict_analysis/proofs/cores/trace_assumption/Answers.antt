@@ -6,7 +6,7 @@ use Rattle.propagation.proofs.Trail.{new_entries}
 use Rattle.conflict_analysis.specs.declared.marks.Mark.TheVariants as mark
 use Rattle.conflict_analysis.specs.Cores.{IsCore}
 use Rattle.conflict_analysis.proofs.Engines.{reason_active}
-use Rattle.conflict_analysis.proofs.Tracing.{assumption_starts, none_unless, opposites_close, placed_at, trace_ends}
+use Rattle.conflict_analysis.proofs.Tracing.{assumption_starts, none_unless, only_new, opposites_close, placed_at, trace_ends}
 use Rattle.conflict_analysis.proofs.cores.trace_assumption.Goals as goal
 
 pub returns-in_default-clause-core : goal.returns-in_default-clause-core
@@ -31,7 +31,7 @@ visit-requires c =
 pub walk_to_assumed-requires-clause-tracing : goal.walk_to_assumed-requires-clause-tracing
 walk_to_assumed-requires-clause-tracing c = assumption_starts c.args.engine.now c.unwrap_or-place.result c.args.l c.in-Some.slot c.id_of.result c.mark_needed.new.marks c.visit.new.self c.push.new.self.items c.push-2.new.self.items
     c.reason.ensures.sound (placed_at c.args.engine.now (neg c.args.l) c.unwrap_or-place.result c.place_of.result c.requires.fails (c.place_of.ensures.value ∙ ap (place_in (literals c.args.engine.now.trail)) c.neg-opposite.ensures.negation) c.unwrap_or-place.ensures)
-    c.requires.fails (ap (reason_in c.args.engine.now.trail) (sym c.neg-opposite.ensures.negation) ∙ sym c.reason.ensures.value ∙ c.in-Some.is) (reason_active c.args.engine.now c.neg-opposite.result c.in-Some.slot c.reason.ensures.sound (sym c.reason.ensures.value ∙ c.in-Some.is)) c.id_of.ensures c.in_ok-mark_needed.ensures.marked (subst (λ z. c.args.engine.now.vars ≤ z) (sym c.mark_needed.ensures.length) c.requires.room)
+    c.requires.fails (ap (reason_in c.args.engine.now.trail) (sym c.neg-opposite.ensures.negation) ∙ sym c.reason.ensures.value ∙ c.in-Some.is) (reason_active c.args.engine.now c.neg-opposite.result c.in-Some.slot c.reason.ensures.sound (sym c.reason.ensures.value ∙ c.in-Some.is)) c.id_of.ensures c.in_ok-mark_needed.ensures.marked (only_new c.args.marks.now c.mark_needed.new.marks c.requires.clear c.in_ok-mark_needed.ensures.only) (subst (λ z. c.args.engine.now.vars ≤ z) (sym c.mark_needed.ensures.length) c.requires.room)
     (c.in_ok-push.ensures.items ∙ ap (λ z. z ++ c.args.l ∷ []) c.requires.no_literals) (c.in_ok-push-3.ensures.items ∙ ap (λ z. z ++ c.id_of.result ∷ []) c.requires.no_hints)
     (c.visit.ensures ∙ ap (λ z. set c.mark_needed.new.marks (z / 2) mark.Clear) c.neg-opposite.ensures.negation)
 

@@ -21,7 +21,7 @@ loop-i-preserved-in-Some c = record {
   tracing = trace_visited c.args.engine.now c.requires.engine c.loop-i.i c.index-trail-i.result (below c.args.engine.now c.loop-i.i c.index-trail-i.result c.trail-trail.result.now c.loop-i-test.true c.loop-i.invariant.tracing.within c.trail-trail.ensures.literals c.index-trail-i.is) c.mark_needed.new.marks c.visit.new.self c.args.core.now.items c.loop-i.core.items c.push.new.self.items
       (trace_resolve c.args.engine.now c.requires.engine c.loop-i.i c.index-trail-i.result (below c.args.engine.now c.loop-i.i c.index-trail-i.result c.trail-trail.result.now c.loop-i-test.true c.loop-i.invariant.tracing.within c.trail-trail.ensures.literals c.index-trail-i.is) c.loop-i.marks c.mark_needed.new.marks c.args.core.now.items c.loop-i.core.items c.loop-i.hints.items c.push.new.self.items c.in-Some.slot c.id_of.result
       c.loop-i.invariant.tracing (ap is_pending (sym c.at.ensures) ∙ sym c.is_pending.ensures ∙ c.if-is_pending.true) (reason_active c.args.engine.now c.index-trail-i.result c.in-Some.slot c.requires.engine (sym c.reason.ensures.value ∙ c.in-Some.is)) c.id_of.ensures (sym c.reason.ensures.value ∙ c.in-Some.is)
-      c.in_ok-mark_needed-in-Some.ensures.marked c.mark_needed.ensures.more c.mark_needed.ensures.length c.in_ok-push-in-Some.ensures.items) c.visit.ensures;
+      c.in_ok-mark_needed-in-Some.ensures.marked c.in_ok-mark_needed-in-Some.ensures.only c.mark_needed.ensures.more c.mark_needed.ensures.length c.in_ok-push-in-Some.ensures.items) c.visit.ensures;
   same = ap length c.visit.ensures ∙ length-set c.mark_needed.new.marks (c.index-trail-i.result / 2) mark.Clear ∙ c.mark_needed.ensures.length ∙ c.loop-i.invariant.same;
 }
 
