@@ -1,10 +1,10 @@
 -- The clauses for which lists stand, as they come and go.
-use Rattle.std.proofs.Common.{◌≡◌, ℕ, zero, suc, ◌+◌, ◌-◌, ◌<◌, Bool, true, false, ◌&&◌, nat_eq, if◌then◌else◌, List, [], ◌∷◌, ◌++◌, length, length-append, map, filter, replicate, sum_by, refl, sym, ap, ◌∙◌, subst, inl, inr, arith, IsPermutation}
-use Rattle.std.proofs.lemmas.Bool.{cases_Bool}
+use Rattle.std.proofs.Common.{Contains, ◌≡◌, ℕ, zero, suc, ◌+◌, ◌-◌, ◌<◌, Bool, true, false, ◌&&◌, nat_eq, if◌then◌else◌, List, [], ◌∷◌, ◌++◌, length, length-append, map, filter, replicate, sum_by, refl, sym, ap, ◌∙◌, subst, inl, inr, arith, IsPermutation}
+use Rattle.std.proofs.lemmas.Bool.{cases_Bool, eq-eqb, eqb-true}
 use Rattle.std.proofs.lemmas.List.Sums.{sum_by-cons}
 use Rattle.std.proofs.lemmas.List.Sorted.{sum_by-IsPermutation, IsPermutation-sym, Contains-permutation}
 use Rattle.lits.specs.Clause.{has}
-use Rattle.lits.proofs.Members.{there, here_or_there, not_in_nil}
+use Rattle.lits.proofs.Members.{here, there, here_or_there, not_in_nil, filter_at, filter_from}
 use Rattle.occurrence_lists.specs.Occurring.{row, times, one_if, with_rows, AreListed, IsAdded, IsRemoved, Numbered, ids_with, StandsFor}
 use Rattle.occurrence_lists.proofs.Counting.{times-nil, times-cons, times-push, length_from_times}
 
@@ -37,6 +37,22 @@ times-pushed q id r false = plus_none (times q r)
 
 cancel : (a b e s t : ℕ) → s ≡ a + e → s ≡ t → t ≡ b + e → a ≡ b
 cancel a b e s t f g h = omega (arith, f, g, h)
+
+-- ---- Mapped members
+
+map_from : {X Y : Type 0} (f : X → Y) (xs : List X) (x : X) → Contains xs x → Contains (map f xs) (f x)
+map_from f [] y m = absurd (not_in_nil y m)
+map_from f (x ∷ xs) y m = elim (here_or_there x y xs m) [
+  | inl e ↦ subst (λ z. Contains (map f (x ∷ xs)) (f z)) e (here (f x) (map f xs))
+  | inr n ↦ there (f x) (f y) (map f xs) (map_from f xs y n)
+]
+
+map_at : {X Y : Type 0} (f : X → Y) (xs : List X) (y : Y) → Contains (map f xs) y → (x : X) × Contains xs x × (f x ≡ y)
+map_at f [] y m = absurd (not_in_nil y m)
+map_at f (x ∷ xs) y m = elim (here_or_there (f x) y (map f xs) m) [
+  | inl e ↦ (x, here x xs, e)
+  | inr n ↦ let r = map_at f xs y n in (r.0, there x r.0 xs r.1, r.2)
+]
 
 -- ---- More lists
 
@@ -90,3 +106,45 @@ length-ids l (c ∷ cs) = ap suc (length-ids l cs)
 
 pub counted : (rows : List (List ℕ)) (cs : List Numbered) (l : ℕ) → StandsFor rows cs → length (row rows l) ≡ length (filter (λ (c : Numbered). has c.1 l) cs)
 counted rows cs l s = length_from_times (row rows l) (ids_with l cs) (s.listed l) ∙ length-ids l (filter (λ (c : Numbered). has c.1 l) cs)
+
+-- ---- An id in the lists
+
+positive : (a b : ℕ) → a ≡ b + 1 → 0 < a
+positive a b e = omega arith
+
+at_least : (a b e : ℕ) → a ≡ b + e → 0 < b → 0 < a
+at_least a b e h p = omega arith
+
+pub added-there : (old new : List (List ℕ)) (id : ℕ) (c : List ℕ) (l : ℕ) → IsAdded old id c new → has c l ≡ true → 0 < times id (row new l)
+added-there old new id c l h m =
+    let e : times id (row new l) ≡ times id (row old l) + one_if (true && nat_eq id id) = ap (times id) (h.rows l) ∙ times-pushed id id (row old l) (has c l) ∙ ap (λ b. times id (row old l) + one_if (b && nat_eq id id)) m in
+    positive (times id (row new l)) (times id (row old l)) (e ∙ ap (λ b. times id (row old l) + one_if b) (eq-eqb id id refl))
+
+pub more-there : (old new : List (List ℕ)) (id q : ℕ) (c : List ℕ) (l : ℕ) → IsAdded old id c new → 0 < times q (row old l) → 0 < times q (row new l)
+more-there old new id q c l h p =
+    at_least (times q (row new l)) (times q (row old l)) (one_if (has c l && nat_eq q id)) (ap (times q) (h.rows l) ∙ times-pushed q id (row old l) (has c l)) p
+
+contained : (q : ℕ) (xs : List ℕ) → 0 < times q xs → Contains xs q
+contained q [] h = let n = times-nil q in absurd (omega (arith, h, n))
+contained q (x ∷ xs) h = elim (cases_Bool (nat_eq q x)) [
+  | inl y ↦ subst (λ z. Contains (x ∷ xs) z) (sym (eqb-true q x y)) (here x xs)
+  | inr n ↦ let e : times q (x ∷ xs) ≡ 0 + times q xs = times-cons q x xs ∙ ap (λ b. one_if b + times q xs) n in there x q xs (contained q xs (omega (arith, h, e)))
+]
+
+counts_in : (q : ℕ) (xs : List ℕ) → Contains xs q → 0 < times q xs
+counts_in q [] m = absurd (not_in_nil q m)
+counts_in q (x ∷ xs) m = elim (here_or_there x q xs m) [
+  | inl y ↦ let e : times q (x ∷ xs) ≡ 1 + times q xs = times-cons q x xs ∙ ap (λ b. one_if b + times q xs) (eq-eqb q x (sym y)) in omega (arith, e)
+  | inr n ↦ let e = times-cons q x xs in let r = counts_in q xs n in omega (arith, e, r)
+]
+
+pub held_is_listed : (rows : List (List ℕ)) (cs : List Numbered) (c : Numbered) (l : ℕ) → StandsFor rows cs → Contains cs c → has c.1 l ≡ true → 0 < times c.0 (row rows l)
+held_is_listed rows cs c l s m h = subst (λ z. 0 < z) (sym (s.listed l c.0))
+    (counts_in c.0 (ids_with l cs) (map_from (λ (d : Numbered). d.0) (filter (λ (d : Numbered). has d.1 l) cs) c (filter_from (λ (d : Numbered). has d.1 l) cs c m h)))
+
+pub listed_is_held : (rows : List (List ℕ)) (cs : List Numbered) (id l : ℕ) → StandsFor rows cs → Contains (row rows l) id → (c : Numbered) × Contains cs c × (c.0 ≡ id) × (has c.1 l ≡ true)
+listed_is_held rows cs id l s m =
+    let n = contained id (ids_with l cs) (subst (λ z. 0 < z) (s.listed l id) (counts_in id (row rows l) m)) in
+    let r = map_at (λ (d : Numbered). d.0) (filter (λ (d : Numbered). has d.1 l) cs) id n in
+    let f = filter_at (λ (d : Numbered). has d.1 l) cs r.0 r.1 in
+    (r.0, f.0, r.2, f.1)

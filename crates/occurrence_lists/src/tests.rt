@@ -14,5 +14,8 @@ fn a_clause_comes_and_goes(rt: HostRuntime) -> Result<(), Fail> {
     assert_eq!(rt; lists.ids(Lit::from_code(0)).len(), 1);
     assert_eq!(rt; lists.ids(Lit::from_code(2)).len(), 2);
     assert_eq!(rt; lists.ids(Lit::from_code(3)).len(), 0);
+    lists.remove(7, &one_two);
+    assert_eq!(rt; lists.ids(Lit::from_code(0)).len(), 0);
+    assert_eq!(rt; lists.ids(Lit::from_code(2)).len(), 1);
     Ok(())
 }
