@@ -8,5 +8,7 @@
 #![tactic(auto)]
 
 mod laws;
+mod pairs;
 
 pub use laws::{boards_are_searched, told_steps_join};
+pub use pairs::has_few_resolvents;

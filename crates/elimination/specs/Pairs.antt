@@ -1,0 +1,26 @@
+-- The pairs of clauses of which the resolvents are counted.
+use Rattle.std.specs.Prelude.{◌≡◌, ℕ, false, not, List, length, map, filter, sum_by, Contains}
+use Rattle.lits.specs.Clause.{is_tautology}
+use Rattle.clause_store.specs.Clauses.{Store, lits_at}
+use Rattle.restore.specs.Resolution.{resolvent}
+use Rattle.resolvents.specs.Held.{AreReserved}
+
+-- the lists of the active clauses of these ids
+abbrev pub clauses_at : Store → List ℕ → List (List ℕ)
+clauses_at m ids = map (lits_at m) ids
+
+-- how many resolvents of a clause with others are no tautologies
+abbrev pub found_with : ℕ → List ℕ → List (List ℕ) → ℕ
+found_with x c ds = length (filter (λ r. not (is_tautology r)) (map (resolvent x c) ds))
+
+-- the same for each of some clauses
+abbrev pub found_pairs : ℕ → List (List ℕ) → List (List ℕ) → ℕ
+found_pairs x cs ds = sum_by (λ c. found_with x c ds) cs
+
+-- a clause may be resolved: its variables are reserved, and it is no tautology
+pub record IsUsable (m : Store) (vars id : ℕ) : Type 0 where
+  pub reserved : AreReserved vars (lits_at m id)
+  pub no_tautology : is_tautology (lits_at m id) ≡ false
+
+abbrev pub AreUsable : Store → ℕ → List ℕ → Type 0
+AreUsable m vars ids = (id : ℕ) → Contains ids id → IsUsable m vars id
