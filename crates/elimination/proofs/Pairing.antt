@@ -1,19 +1,21 @@
 -- The resolvents of clauses that hold a variable with clauses that hold its negation, counted pair by pair.
-use Rattle.std.proofs.Common.{◌≡◌, ◌≢◌, ℕ, suc, ◌+◌, ◌<◌, ◌≤◌, Bool, true, false, List, [], ◌∷◌, ◌++◌, length, length-append, filter, flat_map, drop, get_or, Contains, refl, sym, ap, ◌∙◌, subst, inl, inr, arith, eqb-true}
-use Rattle.std.proofs.lemmas.Bool.{both_ways, and_parts, not-true, false_from_ne_true, le-leb, lt-leb}
+use Rattle.std.proofs.Common.{◌≡◌, ◌≢◌, ℕ, suc, ◌+◌, ◌<◌, ◌≤◌, Bool, true, false, not, ◌&&◌, List, [], ◌∷◌, ◌++◌, length, length-append, filter, flat_map, drop, get_or, Contains, refl, sym, ap, ◌∙◌, subst, inl, inr, arith, eqb-true}
+use Rattle.std.proofs.lemmas.Bool.{cases_Bool, both_ways, and_parts, and_from, not-true, false_from_ne_true, le-leb, lt-leb}
 use Rattle.std.proofs.lemmas.List.{drop_more, drop_all}
 use Rattle.std.proofs.lemmas.List.Sums.{sum_by-cons}
 use Rattle.std.proofs.lemmas.List.Concat.{length-flat_map}
 use Rattle.std.proofs.lemmas.List.Elements.{filter-append}
 use Rattle.lits.specs.Literal.{var, positive, neg}
+use Rattle.std.specs.List.{list_any}
 use Rattle.lits.specs.Clause.{has, is_tautology}
 use Rattle.lits.proofs.Literal.{same_var}
 use Rattle.lits.proofs.Members.{here, there, any_at, any_from, has_from}
 use Rattle.clause_store.specs.Clauses.{Store, lits_at}
 use Rattle.restore.specs.Resolution.{is_plain, is_negated, of_variable, has_variable, holds, holds_negated, resolvents_with, resolvents}
 use Rattle.restore.proofs.Joined.{append_at, map_at}
-use Rattle.elimination_laws.specs.Eligible.{how_many, has_few_resolvents}
-use Rattle.elimination.specs.Pairs.{clauses_at, found_with, found_pairs, AreUsable}
+use Rattle.elimination_laws.specs.Eligible.{how_many, most_holding, has_few_resolvents, eligible, OftenAs}
+use Rattle.elimination_laws.proofs.Deciding.{eligible-local}
+use Rattle.elimination.specs.Pairs.{clauses_at, found_with, found_pairs, may_go, AreUsable}
 
 -- ---- Filters
 
@@ -76,6 +78,47 @@ module _ (x : ℕ) (ps ns : List (List ℕ)) (with_it : (c : List ℕ) → Conta
     | inr b ↦ has-negated x c (against_it c b).0
   ])) ∙ length-append ps ns
 
+-- ---- Tests
+
+and-first : (a b : Bool) → a ≡ false → (a && b) ≡ false
+and-first a b e = rw e refl
+
+and-second : (a b : Bool) → b ≡ false → (a && b) ≡ false
+and-second true b e = e
+and-second false b e = refl
+
+and-true : (a b : Bool) → a ≡ true → (a && b) ≡ b
+and-true a b e = rw e refl
+
+none_any : (p : List ℕ → Bool) (cs : List (List ℕ)) → how_many p cs ≡ 0 → list_any p cs ≡ false
+none_any p [] h = refl
+none_any p (c ∷ cs) h = elim (cases_Bool (p c)) [
+  | inl y ↦ let f : suc (how_many p cs) ≡ 0 = rw y at h in absurd (omega (arith, f))
+  | inr n ↦ let f : how_many p cs ≡ 0 = rw n at h in rw n (none_any p cs f)
+]
+
+some_any : (p : List ℕ → Bool) (cs : List (List ℕ)) → 0 < how_many p cs → list_any p cs ≡ true
+some_any p cs h = elim (cases_Bool (list_any p cs)) [
+  | inl y ↦ y
+  | inr n ↦ absurd (none p cs n h)
+]
+  where
+    none : (p : List ℕ → Bool) (cs : List (List ℕ)) → list_any p cs ≡ false → 0 < how_many p cs → ⊥
+    none p [] n h = omega (arith, h)
+    none p (c ∷ cs) n h = elim (cases_Bool (p c)) [
+      | inl y ↦ both_ways _ n (rw y refl)
+      | inr z ↦ let n2 : list_any p cs ≡ false = rw z at n in let h2 : 0 < how_many p cs = rw z at h in none p cs n2 h2
+    ]
+
+-- ---- A variable's own clauses
+
+pub own_clauses : (cs ds : List (List ℕ)) (frozen assigned : List ℕ) (x : ℕ) → ((c : List ℕ) → Contains ds c → has_variable x c ≡ true) → OftenAs (filter (has_variable x) cs) ds
+    → eligible cs frozen assigned x ≡ ((not (has_variable x frozen) && not (has_variable x assigned)) && may_go ds x)
+unfolding eligible
+own_clauses cs ds frozen assigned x h o =
+    let e : ds ≡ filter (has_variable x) ds = sym (filter-all (has_variable x) ds h) in
+    eligible-local cs ds frozen frozen assigned assigned x (subst (λ z. OftenAs (filter (has_variable x) cs) z) e o) refl refl
+
 -- ---- By ids
 
 length-clauses : (m : Store) (ids : List ℕ) → length (clauses_at m ids) ≡ length ids
@@ -101,6 +144,26 @@ module _ (m : Store) (vars x : ℕ) (with_ids against : List ℕ) (usable : AreU
 
   pub few_enough : found_pairs x (clauses_at m with_ids) (clauses_at m against) ≤ length with_ids + length against → true ≡ has_few_resolvents (clauses_at m with_ids ++ clauses_at m against) x
   few_enough h = sym (le-leb _ _ (omega (arith, h, most, found)))
+
+  holding : how_many (holds x) (clauses_at m with_ids ++ clauses_at m against) ≡ length with_ids
+  holding = ap length (positive_ones x (clauses_at m with_ids) (clauses_at m against) with_it against_it) ∙ length-clauses m with_ids
+
+  holding_negation : how_many (holds_negated x) (clauses_at m with_ids ++ clauses_at m against) ≡ length against
+  holding_negation = ap length (negative_ones x (clauses_at m with_ids) (clauses_at m against) with_it against_it) ∙ length-clauses m against
+
+  pub none_goes : length with_ids + length against ≡ 0 → false ≡ may_go (clauses_at m with_ids ++ clauses_at m against) x
+  none_goes h = sym (and-first _ _ (none_any (has_variable x) (clauses_at m with_ids ++ clauses_at m against) (most ∙ h)))
+
+  pub many_with : most_holding < length with_ids → false ≡ may_go (clauses_at m with_ids ++ clauses_at m against) x
+  many_with h = sym (and-second _ _ (and-first _ _ (and-first _ _ (lt-leb _ _ (subst (λ z. most_holding < z) (sym holding) h)))))
+
+  pub many_against : most_holding < length against → false ≡ may_go (clauses_at m with_ids ++ clauses_at m against) x
+  many_against h = sym (and-second _ _ (and-first _ _ (and-second _ _ (lt-leb _ _ (subst (λ z. most_holding < z) (sym holding_negation) h)))))
+
+  pub few_go : (b : Bool) → 0 < length with_ids + length against → length with_ids ≤ most_holding → length against ≤ most_holding
+      → b ≡ has_few_resolvents (clauses_at m with_ids ++ clauses_at m against) x → b ≡ may_go (clauses_at m with_ids ++ clauses_at m against) x
+  few_go b up p n e = e ∙ sym (and-true _ _ (some_any (has_variable x) (clauses_at m with_ids ++ clauses_at m against) (subst (λ z. 0 < z) (sym most) up))
+      ∙ and-true _ _ (and_from _ _ (le-leb _ _ (subst (λ z. z ≤ most_holding) (sym holding) p)) (le-leb _ _ (subst (λ z. z ≤ most_holding) (sym holding_negation) n))))
 
 -- ---- As code counts them
 

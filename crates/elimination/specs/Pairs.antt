@@ -1,8 +1,10 @@
 -- The pairs of clauses of which the resolvents are counted.
-use Rattle.std.specs.Prelude.{◌≡◌, ℕ, false, not, List, length, map, filter, sum_by, Contains}
+use Rattle.std.specs.Prelude.{◌≡◌, ℕ, Bool, false, not, ◌&&◌, List, length, map, filter, sum_by, Contains}
+use Rattle.std.specs.List.{list_any}
 use Rattle.lits.specs.Clause.{is_tautology}
 use Rattle.clause_store.specs.Clauses.{Store, lits_at}
-use Rattle.restore.specs.Resolution.{resolvent}
+use Rattle.restore.specs.Resolution.{resolvent, has_variable}
+use Rattle.elimination_laws.specs.Eligible.{stands_in_few, has_few_resolvents}
 use Rattle.resolvents.specs.Held.{AreReserved}
 
 -- the lists of the active clauses of these ids
@@ -24,3 +26,7 @@ pub record IsUsable (m : Store) (vars id : ℕ) : Type 0 where
 
 abbrev pub AreUsable : Store → ℕ → List ℕ → Type 0
 AreUsable m vars ids = (id : ℕ) → Contains ids id → IsUsable m vars id
+
+-- what an eligible variable needs of clauses: some clause has it, few clauses have it, and it has few resolvents
+abbrev pub may_go : List (List ℕ) → ℕ → Bool
+may_go cs x = list_any (has_variable x) cs && (stands_in_few cs x && has_few_resolvents cs x)

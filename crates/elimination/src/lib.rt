@@ -10,5 +10,5 @@
 mod laws;
 mod pairs;
 
-pub use laws::{boards_are_searched, told_steps_join};
-pub use pairs::has_few_resolvents;
+pub use laws::{boards_are_searched, own_clauses_decide, told_steps_join};
+pub use pairs::{has_few_resolvents, may_go};

@@ -5,7 +5,7 @@ ghost use Rattle.lits.specs.Clause.{is_tautology};
 ghost use Rattle.clause_store.specs.Clauses.{lits_at};
 ghost use Rattle.restore.specs.Resolution.{holds, holds_negated};
 ghost use Rattle.elimination_laws.specs.Eligible.{has_few_resolvents};
-ghost use Rattle.elimination.specs.Pairs.{clauses_at, found_with, AreUsable};
+ghost use Rattle.elimination.specs.Pairs.{clauses_at, found_with, may_go, AreUsable};
 
 use clause_store::Store;
 use lits::Lit;
@@ -21,6 +21,9 @@ fn lits_of(store: &Store, id: u64) -> &[Lit]
         None => &[],
     }
 }
+
+// So many clauses at most hold an eligible variable, and so many its negation.
+const MOST_HOLDING: usize = 10;
 
 /// How many resolvents of the clause that is held with these are no tautologies.
 fn count_with(resolver: &Resolver, store: &Store, var: u32, ids: &[u64]) -> usize
@@ -67,4 +70,35 @@ pub fn has_few_resolvents(
         }
     }
     Ok(true)
+}
+
+/// Whether the clauses allow that a variable is eliminated: some clause has it, at most ten hold it, at most ten hold its
+/// negation, and it has few enough resolvents. The first ids are those of the clauses that hold the variable, and the second
+/// those of the clauses that hold its negation. The resolver may hold another clause then.
+///
+/// `AllocError` means out of memory.
+pub fn may_go(
+    resolver: &mut Resolver,
+    store: &Store,
+    var: u32,
+    with: &[u64],
+    against: &[u64],
+) -> Result<bool, AllocError>
+    requires usable_with { AreUsable store.now resolver.old.reserved with.now }
+    requires usable_against { AreUsable store.now resolver.old.reserved against.now }
+    requires hold { (id : ℕ) → Contains with.now id → holds var (lits_at store.now id) ≡ true }
+    requires hold_negation { (id : ℕ) → Contains against.now id → holds_negated var (lits_at store.now id) ≡ true }
+    ensures goes { IfOk result (λ b. b ≡ may_go (clauses_at store.now with.now ++ clauses_at store.now against.now) var) }
+    ensures reserved { resolver.new.reserved ≡ resolver.old.reserved }
+{
+    if with.len() + against.len() == 0 {
+        return Ok(false);
+    }
+    if with.len() > MOST_HOLDING {
+        return Ok(false);
+    }
+    if against.len() > MOST_HOLDING {
+        return Ok(false);
+    }
+    has_few_resolvents(resolver, store, var, with, against)
 }
