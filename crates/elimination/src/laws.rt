@@ -1,0 +1,27 @@
+// Laws of boards and of the steps that are told of them.
+ghost use Rattle.std.specs.Prelude.{◌≡◌, ℕ, true, not, ◌&&◌, List, [], ◌++◌, filter, Contains};
+ghost use Rattle.restore.specs.Resolution.{has_variable};
+ghost use Rattle.elimination_laws.specs.Eligible.{eligible, OftenAs};
+ghost use Rattle.session_rules.specs.declared.Told.{Told};
+ghost use Rattle.elimination.specs.Boards.{BoardView, IsBoard, IsSearched};
+ghost use Rattle.elimination.specs.Calls.{AreTold};
+ghost use Rattle.elimination.specs.Pairs.{may_go};
+
+/// What holds of every board holds of one that is searched.
+pub fn boards_are_searched()
+    ensures { (b : BoardView) → IsBoard b → IsSearched b }
+{}
+
+/// Steps that lead from a board to a second one, and steps that lead on to a third one, lead together from the first to the
+/// third. No steps lead from a board to itself.
+pub fn told_steps_join()
+    ensures none { (b : BoardView) → AreTold b [] b }
+    ensures joined { (a b c : BoardView) (ts us : List Told) → AreTold a ts b → AreTold b us c → AreTold a (ts ++ us) c }
+{}
+
+/// A variable's own clauses decide whether it is eligible, with whether it is frozen or assigned.
+pub fn own_clauses_decide()
+    ensures { (cs ds : List (List ℕ)) (frozen assigned : List ℕ) (x : ℕ) → ((c : List ℕ) → Contains ds c → has_variable x c ≡ true)
+        → OftenAs (filter (has_variable x) cs) ds
+        → eligible cs frozen assigned x ≡ ((not (has_variable x frozen) && not (has_variable x assigned)) && may_go ds x) }
+{}

@@ -1,0 +1,14 @@
+//! The board of a solver between queries: definitions of what it is and what each call on it does, with their first laws.
+//!
+//! A board has the clauses in an engine, the ids of the irredundant ones, the stack of eliminated variables, the inputs as they
+//! were given, and the next id. Its calls tell each step to a log the moment they take it. What was told says all of what
+//! became of the clauses: replayed by ids on the clauses before, the steps give those after.
+//!
+//! The calls themselves aren't here yet.
+#![tactic(auto)]
+
+mod laws;
+mod pairs;
+
+pub use laws::{boards_are_searched, own_clauses_decide, told_steps_join};
+pub use pairs::{has_few_resolvents, may_go};

@@ -1,0 +1,4 @@
+pub mod Marking
+pub mod Clashing
+pub mod Listing
+mod Examples
