@@ -7,3 +7,4 @@ pub mod IdFaults
 pub mod KnownRules
 pub mod Growing
 mod Examples
+pub mod Given

@@ -9,7 +9,8 @@
 #![tactic(auto)]
 
 ghost use Rattle.std.specs.Prelude.{◌≡◌, ℕ, IsTrue, true, false, if◌then◌else◌, List, [], ◌∷◌, ◌++◌, map, Option, Some, None, option_map};
-ghost use Rattle.lits.specs.Numbering.{is_known, are_known, dense_lits};
+ghost use Rattle.lits.specs.Clause.{set_of};
+ghost use Rattle.lits.specs.Numbering.{is_known, are_known, dense_lits, file_lits};
 ghost use Rattle.session_rules.specs.declared.Event.{Event};
 ghost use Rattle.session_rules.specs.declared.Step.{Step};
 ghost use Rattle.session_rules.specs.declared.Step.TheVariants as steps;
@@ -18,6 +19,8 @@ ghost use Rattle.session_rules.specs.declared.Rule.TheVariants as rules;
 ghost use Rattle.session_rules.specs.Logic.{closes, hints_fail, is_tautology};
 ghost use Rattle.session_rules.specs.History.{phase, assumed, inputs, first_missing};
 ghost use Rattle.session_rules.specs.Own.{events_of, own_faults, own_id_faults, active_copies, weakened_copies, active_clauses, standing_after, active_clause, id_events_of};
+ghost use Rattle.side_laws.specs.Sets.{given_by, next_id, named_id, kept_at};
+ghost use Rattle.numbering_laws.specs.Kept.{dense_given, file_kept};
 ghost use Rattle.numbering_laws.specs.Dense.{dense_clauses, dense_event, dense_step, dense_steps, dense_id_step, dense_id_steps, are_known_clauses, is_known_step, are_known_steps, is_known_id_step, are_known_id_steps, dense_rule, file_rule, known_of, unknown_of, KnownById};
 
 /// Clauses and literals whose variables have numbers close exactly where their translations do, and hints over such clauses
@@ -63,6 +66,19 @@ pub fn translated_steps_break_the_same_rules()
         → own_id_faults (dense_id_steps vars ps) (dense_id_step vars p) ≡ map (dense_rule vars) (own_id_faults ps p) }
     ensures id_back { (vars : List ℕ) (ps : List LStep) (p : LStep) → IsTrue (are_known_id_steps vars ps) → IsTrue (is_known_id_step vars p)
         → map (file_rule vars) (own_id_faults (dense_id_steps vars ps) (dense_id_step vars p)) ≡ own_id_faults ps p }
+{}
+
+/// A step without ids names the id that its translation names, and what the translated steps leave of an id is, read back, what
+/// the steps leave of it.
+pub fn translated_steps_name_the_same_ids()
+    ensures next { (vars : List ℕ) (ps : List Step) → IsTrue (are_known_steps vars ps) → next_id (dense_steps vars ps) ≡ next_id ps }
+    ensures named { (vars : List ℕ) (ps : List Step) (p : Step) → IsTrue (are_known_steps vars ps)
+        → named_id (dense_steps vars ps) (dense_step vars p) ≡ named_id ps p }
+    ensures given { (vars : List ℕ) (ps : List Step) → IsTrue (are_known_steps vars ps)
+        → given_by (dense_steps vars ps) ≡ map (dense_given vars) (given_by ps) }
+    ensures kept { (vars : List ℕ) (ps : List Step) (id : ℕ) → IsTrue (are_known_steps vars ps)
+        → file_kept vars (kept_at (dense_steps vars ps) id) ≡ kept_at ps id }
+    ensures sets { (vars c : List ℕ) → IsTrue (are_known vars c) → set_of (file_lits vars (set_of (dense_lits vars c))) ≡ set_of c }
 {}
 
 /// When more variables come, known steps stay known, and their translation stays.
