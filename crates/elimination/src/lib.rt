@@ -7,8 +7,10 @@
 //! The calls themselves aren't here yet.
 #![tactic(auto)]
 
+mod known;
 mod laws;
 mod pairs;
 
+pub use known::is_known;
 pub use laws::{boards_are_searched, own_clauses_decide, told_steps_join};
 pub use pairs::{has_few_resolvents, may_go};

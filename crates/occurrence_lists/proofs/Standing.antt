@@ -124,14 +124,14 @@ pub more-there : (old new : List (List ℕ)) (id q : ℕ) (c : List ℕ) (l : �
 more-there old new id q c l h p =
     at_least (times q (row new l)) (times q (row old l)) (one_if (has c l && nat_eq q id)) (ap (times q) (h.rows l) ∙ times-pushed q id (row old l) (has c l)) p
 
-contained : (q : ℕ) (xs : List ℕ) → 0 < times q xs → Contains xs q
+pub contained : (q : ℕ) (xs : List ℕ) → 0 < times q xs → Contains xs q
 contained q [] h = let n = times-nil q in absurd (omega (arith, h, n))
 contained q (x ∷ xs) h = elim (cases_Bool (nat_eq q x)) [
   | inl y ↦ subst (λ z. Contains (x ∷ xs) z) (sym (eqb-true q x y)) (here x xs)
   | inr n ↦ let e : times q (x ∷ xs) ≡ 0 + times q xs = times-cons q x xs ∙ ap (λ b. one_if b + times q xs) n in there x q xs (contained q xs (omega (arith, h, e)))
 ]
 
-counts_in : (q : ℕ) (xs : List ℕ) → Contains xs q → 0 < times q xs
+pub counts_in : (q : ℕ) (xs : List ℕ) → Contains xs q → 0 < times q xs
 counts_in q [] m = absurd (not_in_nil q m)
 counts_in q (x ∷ xs) m = elim (here_or_there x q xs m) [
   | inl y ↦ let e : times q (x ∷ xs) ≡ 1 + times q xs = times-cons q x xs ∙ ap (λ b. one_if b + times q xs) (eq-eqb q x (sym y)) in omega (arith, e)
