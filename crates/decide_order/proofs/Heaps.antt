@@ -271,3 +271,20 @@ sinks_taken ss xs ys long rest h = record {
   others = λ j zj lj sj n. rw (rest j zj lj, rest (parent j) (omega arith) (omega arith)) (h.ordered j zj (omega arith) (omega arith));
   below = λ j zj lj pj z sp. omega arith;
 }
+
+-- a variable of which the rank fell may sink, where the others keep theirs
+pub sinks_lowered : (ss tt xs : List ℕ) (i : ℕ) → ((j : ℕ) → j < length xs → j ≢ i → rank_at tt xs j ≡ rank_at ss xs j) → rank_at tt xs i ≤ rank_at ss xs i
+    → IsHeapFrom ss xs 0 → SinksAt tt xs 0 i
+sinks_lowered ss tt xs i same less h = record {
+  others = λ j zj lj sj n.
+      let old : rank_at ss xs j ≤ rank_at ss xs (parent j) = h.ordered j zj lj (omega arith) in
+      let up : rank_at tt xs (parent j) ≡ rank_at ss xs (parent j) = same (parent j) (omega arith) n in
+      elim (same_or_not j i) [
+        | inl e ↦ let here : rank_at tt xs j ≤ rank_at ss xs j = subst (λ k. rank_at tt xs k ≤ rank_at ss xs k) (sym e) less in rw up (omega arith)
+        | inr m ↦ rw (same j lj m, up) old
+      ];
+  below = λ j zj lj pj z sp.
+      let first : rank_at ss xs j ≤ rank_at ss xs i = subst (λ k. rank_at ss xs j ≤ rank_at ss xs k) pj (h.ordered j zj lj (omega arith)) in
+      let second : rank_at ss xs i ≤ rank_at ss xs (parent i) = h.ordered i z (omega arith) (omega arith) in
+      rw (same j lj (λ e. omega arith), same (parent i) (omega arith) (λ e. omega arith)) (omega arith);
+}

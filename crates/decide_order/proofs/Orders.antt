@@ -13,7 +13,7 @@ use Rattle.decide_order.specs.Ranked.{Ranked, IsMember, IsBest, score, empty, wi
 use Rattle.decide_order.specs.Placed.{Placed, has}
 use Rattle.decide_order.specs.Heap.{rank, rank_at, IsHeapFrom, RisesAt, SinksAt, IsReordered, IsOrder}
 use Rattle.decide_order.specs.Shown.{score_map, member_set, shown}
-use Rattle.decide_order.proofs.Heaps.{same_ranks, top, rises_added, rises_raised, sinks_taken}
+use Rattle.decide_order.proofs.Heaps.{same_ranks, top, rises_added, rises_raised, sinks_lowered, sinks_taken}
 use Rattle.decide_order.proofs.Ranks.{rank_same, rank_grown, rank_best}
 use Rattle.decide_order.proofs.Views.{score_map-set, score_map-zeros, score_map-scaled, member-has, member_set-same, member_set-push, insert_member, member_set-taken, same_ranked, shown-score}
 
@@ -85,11 +85,15 @@ pub record Raised (ss tt : List ℕ) (p r : Placed) (v s : ℕ) : Type 0 where
   pub order : IsOrder tt r
   pub shows : shown tt r ≡ with_score (shown ss p) v s
 
--- the scores with one that grew to this one
-pub record Grows (ss tt : List ℕ) (v s : ℕ) : Type 0 where
+-- the scores with another one for a variable
+pub record Changes (ss tt : List ℕ) (v s : ℕ) : Type 0 where
   pub positive : 0 < v
   pub scored : v ≤ length ss
   pub is : tt ≡ slice_set ss (v - 1) s
+
+-- the scores with one that grew to this one
+pub record Grows (ss tt : List ℕ) (v s : ℕ) : Type 0 where
+  pub changes : Changes ss tt v s
   pub more : slice_index ss (v - 1) ≤ s
 
 -- the scores as `raise` leaves them
@@ -99,37 +103,44 @@ grows ss tt o v s x by p h shows z le e es fits et =
     let room : p.reserved ≡ o.reserved = ap (λ r. r.reserved) shows in
     let sized = h.sized in
     let read : x ≡ slice_index ss (v - 1) = e ∙ get_or_default ss (v - 1) x 0 (omega arith) in
-    record { positive = z; scored = omega arith; is = et; more = omega arith }
+    record { changes = record { positive = z; scored = omega arith; is = et }; more = omega arith }
 
--- the score that callers see, and the next one
-pub next_score : (ss : List ℕ) (o : Ranked) (v s x by : ℕ) (p : Placed) → IsOrder ss p → shown ss p ≡ o → 0 < v → v ≤ o.reserved → x ≡ get_or ss (v - 1) x
-    → s ≡ min (x + by) (2 ^ 64 - 1) → s ≡ min (score o v + by) (2 ^ 64 - 1)
-next_score ss o v s x by p h shows z le e es =
+-- the score that callers see
+pub read_score : (ss : List ℕ) (o : Ranked) (v x : ℕ) (p : Placed) → IsOrder ss p → shown ss p ≡ o → 0 < v → v ≤ o.reserved → x ≡ get_or ss (v - 1) x → x ≡ score o v
+read_score ss o v x p h shows z le e =
     let room : p.reserved ≡ o.reserved = ap (λ r. r.reserved) shows in
     let sized = h.sized in
-    let read : x ≡ slice_index ss (v - 1) = e ∙ get_or_default ss (v - 1) x 0 (omega arith) in
-    es ∙ ap (λ k. min (k + by) (2 ^ 64 - 1)) (read ∙ sym (shown-score ss p v z) ∙ ap (λ r. score r v) shows)
+    e ∙ get_or_default ss (v - 1) x 0 (omega arith) ∙ sym (shown-score ss p v z) ∙ ap (λ r. score r v) shows
 
-other_rank : (ss tt : List ℕ) (v s w : ℕ) → Grows ss tt v s → 0 < w → w ≢ v → rank tt w ≡ rank ss w
+-- and the next one
+pub next_score : (ss : List ℕ) (o : Ranked) (v s x by : ℕ) (p : Placed) → IsOrder ss p → shown ss p ≡ o → 0 < v → v ≤ o.reserved → x ≡ get_or ss (v - 1) x
+    → s ≡ min (x + by) (2 ^ 64 - 1) → s ≡ min (score o v + by) (2 ^ 64 - 1)
+next_score ss o v s x by p h shows z le e es = es ∙ ap (λ k. min (k + by) (2 ^ 64 - 1)) (read_score ss o v x p h shows z le e)
+
+other_rank : (ss tt : List ℕ) (v s w : ℕ) → Changes ss tt v s → 0 < w → w ≢ v → rank tt w ≡ rank ss w
 other_rank ss tt v s w g z n =
     let zv = g.positive in
     rank_same ss tt w (rw (g.is) (get_or-set_other ss (v - 1) (w - 1) s 0 (λ e. omega arith)))
 
-more_rank : (ss tt : List ℕ) (v s : ℕ) → Grows ss tt v s → rank ss v ≤ rank tt v
-more_rank ss tt v s g =
+new_score : (ss tt : List ℕ) (v s : ℕ) → Changes ss tt v s → slice_index tt (v - 1) ≡ s
+new_score ss tt v s g =
     let zv = g.positive in
     let le = g.scored in
-    let now : slice_index tt (v - 1) ≡ s = rw (g.is) (get_or-set_same ss (v - 1) s 0 (omega arith)) in
+    rw (g.is) (get_or-set_same ss (v - 1) s 0 (omega arith))
+
+more_rank : (ss tt : List ℕ) (v s : ℕ) → Grows ss tt v s → rank ss v ≤ rank tt v
+more_rank ss tt v s g =
+    let now = new_score ss tt v s g.changes in
     let h = g.more in
     rank_grown ss tt v (omega arith)
 
 pub rises_grown : (ss tt : List ℕ) (p : Placed) (v s i : ℕ) → IsOrder ss p → Grows ss tt v s → ((j : ℕ) → j < length p.items → 0 < slice_index p.items j)
     → i < length p.items → slice_index p.items i ≡ v → ((j : ℕ) → j < length p.items → slice_index p.items j ≡ v → j ≡ i) → RisesAt tt p.items i
 rises_grown ss tt p v s i o g up lt at alone =
-    rises_raised ss tt p.items i (λ j lj n. other_rank ss tt v s (slice_index p.items j) g (up j lj) (λ e. n (alone j lj e)))
+    rises_raised ss tt p.items i (λ j lj n. other_rank ss tt v s (slice_index p.items j) g.changes (up j lj) (λ e. n (alone j lj e)))
     (rw at (more_rank ss tt v s g)) o.heap
 
-pub raised : (ss tt : List ℕ) (p r : Placed) (v s : ℕ) → IsOrder ss p → Grows ss tt v s → IsHeapFrom tt r.items 0 → IsReordered p r → Raised ss tt p r v s
+pub raised : (ss tt : List ℕ) (p r : Placed) (v s : ℕ) → IsOrder ss p → Changes ss tt v s → IsHeapFrom tt r.items 0 → IsReordered p r → Raised ss tt p r v s
 raised ss tt p r v s o g heap re =
     let sized = o.sized in
     let same = re.reserved in
@@ -139,12 +150,32 @@ raised ss tt p r v s o g heap re =
       shows = same_ranked _ _ same (ap score_map g.is ∙ score_map-set ss v s g.positive g.scored) (member_set-same p.items r.items re.same);
     }
 
-pub raised_alone : (ss tt : List ℕ) (p : Placed) (v s : ℕ) → IsOrder ss p → Grows ss tt v s → ((j : ℕ) → j < length p.items → 0 < slice_index p.items j)
+pub raised_alone : (ss tt : List ℕ) (p : Placed) (v s : ℕ) → IsOrder ss p → Changes ss tt v s → ((j : ℕ) → j < length p.items → 0 < slice_index p.items j)
     → has p.items v ≡ false → Raised ss tt p p v s
 raised_alone ss tt p v s o g up no_item =
     raised ss tt p p v s o g (same_ranks ss tt p.items 0 (λ j lj. other_rank ss tt v s (slice_index p.items j) g (up j lj) (λ e.
     both_ways _ no_item (list_any_at (λ y. nat_eq y v) p.items j 0 lj (eq-eqb _ v e)))) o.heap)
     (record { reserved = refl; count = refl; same = λ w. refl })
+
+-- ---- A score falls
+
+-- the scores as `lower` leaves them
+pub lowers : (ss tt : List ℕ) (o : Ranked) (v s : ℕ) (p : Placed) → IsOrder ss p → shown ss p ≡ o → 0 < v → v ≤ o.reserved → tt ≡ slice_set ss (v - 1) s → Changes ss tt v s
+lowers ss tt o v s p h shows z le et =
+    let room : p.reserved ≡ o.reserved = ap (λ r. r.reserved) shows in
+    let sized = h.sized in
+    record { positive = z; scored = omega arith; is = et }
+
+less_rank : (ss tt : List ℕ) (v s : ℕ) → Changes ss tt v s → s ≤ slice_index ss (v - 1) → rank tt v ≤ rank ss v
+less_rank ss tt v s g h = let now = new_score ss tt v s g in rank_grown tt ss v (omega arith)
+
+pub sinks_shrunk : (ss tt : List ℕ) (o : Ranked) (p : Placed) (v s i : ℕ) → IsOrder ss p → shown ss p ≡ o → Changes ss tt v s → s ≤ score o v
+    → ((j : ℕ) → j < length p.items → 0 < slice_index p.items j)
+    → slice_index p.items i ≡ v → ((j : ℕ) → j < length p.items → slice_index p.items j ≡ v → j ≡ i) → SinksAt tt p.items 0 i
+sinks_shrunk ss tt o p v s i h shows g less up at alone =
+    let seen : slice_index ss (v - 1) ≡ score o v = sym (shown-score ss p v g.positive) ∙ ap (λ r. score r v) shows in
+    sinks_lowered ss tt p.items i (λ j lj n. other_rank ss tt v s (slice_index p.items j) g (up j lj) (λ e. n (alone j lj e)))
+    (rw at (less_rank ss tt v s g (omega arith))) h.heap
 
 -- ---- The scores are scaled
 

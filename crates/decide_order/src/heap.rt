@@ -77,15 +77,16 @@ pub fn better_child(scores: &[u64], placed: &PlacedList, at: usize) -> Option<us
     }
 }
 
-/// Lets the variable at a place sink.
-pub fn sink(scores: &[u64], placed: &mut PlacedList, start: usize)
+/// Lets the variable at a place sink, where the places from a start on are a heap but for it.
+pub fn sink(scores: &[u64], placed: &mut PlacedList, start: usize, place: usize)
     requires sized { length scores.now ≡ placed.old.reserved }
-    requires within { start ≤ length placed.old.items }
-    requires sinks { SinksAt scores.now placed.old.items start start }
+    requires within { place ≤ length placed.old.items }
+    requires behind { start ≤ place }
+    requires sinks { SinksAt scores.now placed.old.items start place }
     ensures heap { IsHeapFrom scores.now placed.new.items start }
     ensures reordered { IsReordered placed.old placed.new }
 {
-    let mut at = start;
+    let mut at = place;
     while let Some(child) = better_child(scores, placed, at) {
         placed.swap(at, child);
         at = child;
@@ -101,6 +102,6 @@ pub fn heapify(scores: &[u64], placed: &mut PlacedList)
     let mut start = placed.len() / 2;
     while start > 0 {
         start -= 1;
-        sink(scores, placed, start);
+        sink(scores, placed, start, start);
     }
 }

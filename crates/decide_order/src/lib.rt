@@ -103,6 +103,40 @@ impl Order {
         }
     }
 
+    /// A variable's score.
+    pub fn score(&self, var: u32) -> u64
+        requires { IsReserved self.now var }
+        ensures { result ≡ score self.now var }
+    {
+        self.scores[(var - 1) as usize]
+    }
+
+    /// Gives a variable a score that isn't greater than its own.
+    fn lower(&mut self, var: u32, to: u64)
+        requires reserved { IsReserved self.old var }
+        requires less { to ≤ score self.old var }
+        ensures { self.new ≡ with_score self.old var to }
+    {
+        let row = (var - 1) as usize;
+        self.scores[row] = to;
+        if let Some(place) = self.placed.place_of(var) {
+            sink(&self.scores, &mut self.placed, 0, place);
+        }
+    }
+
+    /// Gives a variable another score, whether it is a member or not. It takes no memory.
+    pub fn set(&mut self, var: u32, to: u64)
+        requires { IsReserved self.old var }
+        ensures { self.new ≡ with_score self.old var to }
+    {
+        let score = self.score(var);
+        if score < to {
+            self.raise(var, to - score);
+        } else {
+            self.lower(var, to);
+        }
+    }
+
     /// Divides each score by 2^bits downwards, of members and of others. It takes no memory.
     pub fn scale(&mut self, bits: u32)
         requires { bits < 64 }
@@ -125,7 +159,7 @@ impl Order {
             return None;
         }
         let best = self.placed.take_first();
-        sink(&self.scores, &mut self.placed, 0);
+        sink(&self.scores, &mut self.placed, 0, 0);
         Some(best)
     }
 }

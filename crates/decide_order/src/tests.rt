@@ -36,6 +36,23 @@ fn scores_stay_at_the_end_and_tie_when_scaled(rt: HostRuntime) -> Result<(), Fai
     Ok(())
 }
 
+#[test]
+fn a_score_that_is_set_moves_the_member(rt: HostRuntime) -> Result<(), Fail> {
+    let mut order = Order::new(rt.alloc());
+    order.reserve(4)?;
+    order.raise(3, 7);
+    order.insert(1);
+    order.insert(2);
+    order.insert(3);
+    order.set(3, 4);
+    order.set(2, 5);
+    assert_eq!(rt; order.score(3), 4);
+    assert_eq!(rt; order.take_best(), Some(2));
+    assert_eq!(rt; order.take_best(), Some(3));
+    assert_eq!(rt; order.take_best(), Some(1));
+    Ok(())
+}
+
 /// The best member, by a look at each.
 fn scan(scores: &[u64; 40], members: &[bool; 40]) -> Option<u32>
     ensures { IfSome result (λ v. (0 < v) × (v ≤ 40)) }

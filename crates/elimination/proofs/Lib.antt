@@ -1,3 +1,5 @@
 pub mod Joining
 pub mod Pairing
+pub mod Knowing
+pub mod Deciding
 mod Examples

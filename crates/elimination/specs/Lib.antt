@@ -2,3 +2,4 @@ pub mod Boards
 pub mod Steps
 pub mod Calls
 pub mod Pairs
+pub mod Known

@@ -1,11 +1,16 @@
 // Laws of boards and of the steps that are told of them.
-ghost use Rattle.std.specs.Prelude.{◌≡◌, ℕ, true, not, ◌&&◌, List, [], ◌++◌, filter, Contains};
+ghost use Rattle.std.specs.Prelude.{◌≡◌, ℕ, ◌<◌, true, false, not, ◌&&◌, List, [], ◌++◌, filter, Contains};
+ghost use Rattle.lits.specs.Literal.{of_var, neg};
+ghost use Rattle.lits.specs.Clause.{is_tautology};
+ghost use Rattle.clause_store.specs.Clauses.{Store, lits_at};
+ghost use Rattle.occurrence_lists.specs.Occurring.{row, StandsFor};
 ghost use Rattle.restore.specs.Resolution.{has_variable};
 ghost use Rattle.elimination_laws.specs.Eligible.{eligible, OftenAs};
 ghost use Rattle.session_rules.specs.declared.Told.{Told};
 ghost use Rattle.elimination.specs.Boards.{BoardView, IsBoard, IsSearched};
 ghost use Rattle.elimination.specs.Calls.{AreTold};
-ghost use Rattle.elimination.specs.Pairs.{may_go};
+ghost use Rattle.elimination.specs.Pairs.{clauses_at, may_go};
+ghost use Rattle.elimination.specs.Known.{numbered};
 
 /// What holds of every board holds of one that is searched.
 pub fn boards_are_searched()
@@ -24,4 +29,12 @@ pub fn own_clauses_decide()
     ensures { (cs ds : List (List ℕ)) (frozen assigned : List ℕ) (x : ℕ) → ((c : List ℕ) → Contains ds c → has_variable x c ≡ true)
         → OftenAs (filter (has_variable x) cs) ds
         → eligible cs frozen assigned x ≡ ((not (has_variable x frozen) && not (has_variable x assigned)) && may_go ds x) }
+{}
+
+/// Where lists of occurrences stand for the irredundant clauses, the lists of a variable's two literals decide its eligibility.
+pub fn lists_decide_eligibility()
+    ensures { (m : Store) (rows : List (List ℕ)) (ids : List ℕ) (x : ℕ) (frozen assigned : List ℕ) → 0 < x → StandsFor rows (numbered m ids)
+        → ((id : ℕ) → Contains ids id → is_tautology (lits_at m id) ≡ false)
+        → eligible (clauses_at m ids) frozen assigned x
+        ≡ ((not (has_variable x frozen) && not (has_variable x assigned)) && may_go (clauses_at m (row rows (of_var x)) ++ clauses_at m (row rows (neg (of_var x)))) x) }
 {}

@@ -7,8 +7,12 @@
 //! The calls themselves aren't here yet.
 #![tactic(auto)]
 
+mod known;
 mod laws;
 mod pairs;
 
-pub use laws::{boards_are_searched, own_clauses_decide, told_steps_join};
+pub use known::is_known;
+pub use laws::{
+    boards_are_searched, lists_decide_eligibility, own_clauses_decide, told_steps_join,
+};
 pub use pairs::{has_few_resolvents, may_go};

@@ -13,7 +13,7 @@ use resolvents::Resolver;
 use std::alloc::AllocError;
 
 /// The literals of an active clause; none where the id isn't active.
-fn lits_of(store: &Store, id: u64) -> &[Lit]
+pub(crate) fn lits_of(store: &Store, id: u64) -> &[Lit]
     ensures { result.now ≡ lits_at store.now id }
 {
     match store.find(id) {

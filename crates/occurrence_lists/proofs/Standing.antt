@@ -5,7 +5,7 @@ use Rattle.std.proofs.lemmas.List.Sums.{sum_by-cons}
 use Rattle.std.proofs.lemmas.List.Sorted.{sum_by-IsPermutation, IsPermutation-sym, Contains-permutation}
 use Rattle.lits.specs.Clause.{has}
 use Rattle.lits.proofs.Members.{here, there, here_or_there, not_in_nil, filter_at, filter_from}
-use Rattle.occurrence_lists.specs.Occurring.{row, times, one_if, with_rows, AreListed, IsAdded, IsRemoved, Numbered, ids_with, StandsFor}
+use Rattle.occurrence_lists.specs.Occurring.{row, times, one_if, with_rows, AreListed, IsAdded, IsRemoved, IsSame, Numbered, ids_with, StandsFor}
 use Rattle.occurrence_lists.proofs.Counting.{times-nil, times-cons, times-push, length_from_times}
 
 flip : (a b : ℕ) → a + b ≡ b + a
@@ -94,6 +94,22 @@ removed old new cs id c h s = record {
       (h.rows l q) (s.listed l q) (times-more l q id c cs);
 }
 
+pub kept : (old new : List (List ℕ)) (cs : List Numbered) → IsSame old new → StandsFor old cs → StandsFor new cs
+kept old new cs h s = record {
+  reserved = λ d m l k. subst (λ z. l < z) (sym h.sized) (s.reserved d m l k);
+  listed = λ l q. sym (h.rows l q) ∙ s.listed l q;
+}
+
+-- what was put in and taken out again
+pub put_back : (old mid new : List (List ℕ)) (id : ℕ) (c : List ℕ) → IsAdded old id c mid → IsRemoved mid id c new → IsSame old new
+put_back old mid new id c a r = record {
+  sized = r.sized ∙ a.sized;
+  rows = λ l q. same_sum (times q (row old l)) (times q (row new l)) (one_if (has c l && nat_eq q id)) (times q (row mid l)) (ap (times q) (a.rows l) ∙ times-pushed q id (row old l) (has c l)) (r.rows l q);
+}
+  where
+    same_sum : (a b e s : ℕ) → s ≡ a + e → s ≡ b + e → a ≡ b
+    same_sum a b e s f g = omega (arith, f, g)
+
 pub reordered : (rows : List (List ℕ)) (cs ds : List Numbered) → IsPermutation cs ds → StandsFor rows cs → StandsFor rows ds
 reordered rows cs ds p s = record {
   reserved = λ c m. s.reserved c (Contains-permutation ds cs c (IsPermutation-sym cs ds p) m);
@@ -124,14 +140,14 @@ pub more-there : (old new : List (List ℕ)) (id q : ℕ) (c : List ℕ) (l : �
 more-there old new id q c l h p =
     at_least (times q (row new l)) (times q (row old l)) (one_if (has c l && nat_eq q id)) (ap (times q) (h.rows l) ∙ times-pushed q id (row old l) (has c l)) p
 
-contained : (q : ℕ) (xs : List ℕ) → 0 < times q xs → Contains xs q
+pub contained : (q : ℕ) (xs : List ℕ) → 0 < times q xs → Contains xs q
 contained q [] h = let n = times-nil q in absurd (omega (arith, h, n))
 contained q (x ∷ xs) h = elim (cases_Bool (nat_eq q x)) [
   | inl y ↦ subst (λ z. Contains (x ∷ xs) z) (sym (eqb-true q x y)) (here x xs)
   | inr n ↦ let e : times q (x ∷ xs) ≡ 0 + times q xs = times-cons q x xs ∙ ap (λ b. one_if b + times q xs) n in there x q xs (contained q xs (omega (arith, h, e)))
 ]
 
-counts_in : (q : ℕ) (xs : List ℕ) → Contains xs q → 0 < times q xs
+pub counts_in : (q : ℕ) (xs : List ℕ) → Contains xs q → 0 < times q xs
 counts_in q [] m = absurd (not_in_nil q m)
 counts_in q (x ∷ xs) m = elim (here_or_there x q xs m) [
   | inl y ↦ let e : times q (x ∷ xs) ≡ 1 + times q xs = times-cons q x xs ∙ ap (λ b. one_if b + times q xs) (eq-eqb q x (sym y)) in omega (arith, e)

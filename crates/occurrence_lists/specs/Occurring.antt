@@ -32,6 +32,11 @@ pub record IsRemoved (old : List (List ℕ)) (id : ℕ) (c : List ℕ) (new : Li
   pub sized : length new ≡ length old
   pub rows : (l q : ℕ) → times q (row old l) ≡ times q (row new l) + one_if (has c l && nat_eq q id)
 
+-- each list has the ids that it had, each as often
+pub record IsSame (old new : List (List ℕ)) : Type 0 where
+  pub sized : length new ≡ length old
+  pub rows : (l q : ℕ) → times q (row old l) ≡ times q (row new l)
+
 -- ---- Clauses
 
 -- a clause with its id

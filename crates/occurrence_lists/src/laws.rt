@@ -1,7 +1,7 @@
 // What the lists say of clauses, as these come and go.
 ghost use Rattle.std.specs.Prelude.{◌≡◌, ℕ, ◌<◌, true, List, ◌∷◌, [], length, filter, Contains, IsPermutation};
 ghost use Rattle.lits.specs.Clause.{has};
-ghost use Rattle.occurrence_lists.specs.Occurring.{row, times, with_rows, AreListed, IsAdded, IsRemoved, StandsFor, Numbered};
+ghost use Rattle.occurrence_lists.specs.Occurring.{row, times, with_rows, AreListed, IsAdded, IsRemoved, IsSame, StandsFor, Numbered};
 
 /// Lists that stand for clauses with their ids stand for one more where it is added, and for one less where it is removed.
 /// The length of a literal's list is then the number of the clauses that hold it, and its ids are theirs.
@@ -12,6 +12,7 @@ pub fn lists_stand_for_clauses()
         → StandsFor old cs → StandsFor new ((id, c) ∷ cs) }
     ensures removed { (old new : List (List ℕ)) (cs : List Numbered) (id : ℕ) (c : List ℕ) → IsRemoved old id c new
         → StandsFor old ((id, c) ∷ cs) → StandsFor new cs }
+    ensures same { (old new : List (List ℕ)) (cs : List Numbered) → IsSame old new → StandsFor old cs → StandsFor new cs }
     ensures order { (rows : List (List ℕ)) (cs ds : List Numbered) → IsPermutation cs ds → StandsFor rows cs → StandsFor rows ds }
     ensures counted { (rows : List (List ℕ)) (cs : List Numbered) (l : ℕ) → StandsFor rows cs
         → length (row rows l) ≡ length (filter (λ (c : Numbered). has c.1 l) cs) }

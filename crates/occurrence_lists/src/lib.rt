@@ -8,10 +8,10 @@
 //! Contracts see for each literal the list of ids, in no order that callers may rest on.
 #![tactic(auto)]
 
-ghost use Rattle.std.specs.Prelude.{◌≡◌, ◌≤◌, ◌<◌, ◌+◌, ◌-◌, ◌*◌, ℕ, [], ◌++◌, ◌∷◌, length, replicate, nat_eq, slice_index, true, OnOk, OnErr, IsOk, IfSome, IfNone};
+ghost use Rattle.std.specs.Prelude.{◌≡◌, ◌≤◌, ◌<◌, ◌+◌, ◌-◌, ◌*◌, ℕ, [], ◌++◌, ◌∷◌, length, take, replicate, nat_eq, slice_index, true, OnOk, OnErr, IsOk, IfSome, IfNone};
 ghost use Rattle.lits.specs.Clause.{has};
 ghost use Rattle.clause_store.specs.Clauses.{IsOnce};
-ghost use Rattle.occurrence_lists.specs.Occurring.{row, times, one_if, with_rows, AreListed, IsAdded, IsRemoved};
+ghost use Rattle.occurrence_lists.specs.Occurring.{row, times, one_if, with_rows, AreListed, IsAdded, IsRemoved, IsSame};
 
 mod laws;
 #[cfg(test)]
@@ -96,14 +96,34 @@ fn widen(rows: &mut Vec<Row>, end: usize) -> Result<(), AllocError>
     Ok(())
 }
 
-/// Puts an id into the lists of these literals. After an error some of them may have it.
+/// Puts an id into the lists of these literals, as far as it goes: so many of them have it then.
+fn push_front(rows: &mut Vec<Row>, id: u64, lits: &[Lit]) -> usize
+    requires listed { AreListed rows.old.items lits.now }
+    requires once { IsOnce lits.now }
+    ensures within { result ≤ length lits.now }
+    ensures added { IsAdded rows.old.items id (take result lits.now) rows.new.items }
+{
+    let mut done = 0;
+    for l in lits {
+        let Ok(()) = rows[l.code() as usize].push(id) else {
+            return done;
+        };
+        done += 1;
+    }
+    done
+}
+
+/// Puts an id into the lists of these literals. After an error each list has what it had.
 fn push_each(rows: &mut Vec<Row>, id: u64, lits: &[Lit]) -> Result<(), AllocError>
     requires listed { AreListed rows.old.items lits.now }
     requires once { IsOnce lits.now }
-    ensures { OnOk result (IsAdded rows.old.items id lits.now rows.new.items) }
+    ensures ok { OnOk result (IsAdded rows.old.items id lits.now rows.new.items) }
+    ensures err { OnErr result (IsSame rows.old.items rows.new.items) }
 {
-    for l in lits {
-        rows[l.code() as usize].push(id)?;
+    let done = push_front(rows, id, lits);
+    if done < lits.len() {
+        take_each(rows, id, &lits[..done]);
+        return Err(AllocError);
     }
     Ok(())
 }
@@ -158,11 +178,12 @@ impl Occurrences {
 
     /// Puts a clause's id into the lists of its literals, which are different.
     ///
-    /// `AllocError` means out of memory, and then some of the lists may have the id.
+    /// `AllocError` means out of memory, and then each list has the ids that it had, in some order.
     pub fn add(&mut self, id: u64, lits: &[Lit]) -> Result<(), AllocError>
         requires reserved { AreListed self.old lits.now }
         requires once { IsOnce lits.now }
-        ensures { OnOk result (IsAdded self.old id lits.now self.new) }
+        ensures ok { OnOk result (IsAdded self.old id lits.now self.new) }
+        ensures err { OnErr result (IsSame self.old self.new) }
     {
         push_each(&mut self.rows, id, lits)
     }

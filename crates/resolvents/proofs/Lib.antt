@@ -1,4 +1,5 @@
 pub mod Marking
 pub mod Clashing
 pub mod Listing
+pub mod Comparing
 mod Examples

@@ -42,3 +42,7 @@ clashing marks x l = not (of_variable x l) && slice_index_or marks (neg l) false
 -- whether a literal isn't of the variable and has no mark
 abbrev pub unmarked : List Bool → ℕ → ℕ → Bool
 unmarked marks x l = not (of_variable x l) && not (slice_index_or marks l false)
+
+-- whether a literal has a mark
+abbrev pub marked : List Bool → ℕ → Bool
+marked marks l = slice_index_or marks l false

@@ -7,12 +7,12 @@
 #![tactic(auto)]
 
 ghost use Rattle.std.specs.Prelude.{◌≡◌, ◌≤◌, ◌<◌, ℕ, not, if◌then◌else◌, [], ◌++◌, length, filter, true, false, slice_index_or, OnOk, OnErr, IsOk};
-ghost use Rattle.std.specs.List.{list_any};
+ghost use Rattle.std.specs.List.{list_all, list_any};
 ghost use Rattle.lits.specs.Literal.{neg};
-ghost use Rattle.lits.specs.Clause.{has, is_tautology};
+ghost use Rattle.lits.specs.Clause.{has, same_set, is_tautology};
 ghost use Rattle.clause_store.specs.Clauses.{IsOnce, firsts};
 ghost use Rattle.restore.specs.Resolution.{of_variable, without, resolvent};
-ghost use Rattle.resolvents.specs.Held.{AreReserved, AreBelow, empty, holding, reserving, clashing, unmarked};
+ghost use Rattle.resolvents.specs.Held.{AreReserved, AreBelow, empty, holding, reserving, clashing, marked, unmarked};
 
 use lits::{Lit, MAX_VAR};
 use std::alloc::{AllocError, Global};
@@ -96,6 +96,19 @@ fn has_clash(marks: &[bool], var: u32, second: &[Lit]) -> bool
         }
     }
     false
+}
+
+/// Whether each of these literals has a mark.
+fn are_marked(marks: &[bool], lits: &[Lit]) -> bool
+    requires { AreBelow (length marks.now) lits.now }
+    ensures { result ≡ list_all (marked marks.now) lits.now }
+{
+    for l in lits {
+        if !marks[l.code() as usize] {
+            return false;
+        }
+    }
+    true
 }
 
 /// Adds the literals that aren't of the variable at the end. After an error some of them may be there.
@@ -201,5 +214,18 @@ impl Resolver {
         out.clear();
         push_others(out, var, &self.first)?;
         push_unmarked(out, &self.marks, var, second)
+    }
+
+    /// Whether this clause has the set of the one that is held. Both have each literal once. It takes no memory.
+    pub fn is_same(&self, other: &[Lit]) -> bool
+        requires reserved { AreReserved self.now.reserved other.now }
+        requires held { IsOnce self.now.clause }
+        requires once { IsOnce other.now }
+        ensures { result ≡ same_set self.now.clause other.now }
+    {
+        if other.len() != self.first.len() {
+            return false;
+        }
+        are_marked(&self.marks, other)
     }
 }

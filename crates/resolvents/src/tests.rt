@@ -1,4 +1,4 @@
-// A resolvent with a shared literal, a tautology, and what is held after another clause.
+// A resolvent with a shared literal, a tautology, the same set in another order, and what is held after another clause.
 use crate::Resolver;
 use lits::Lit;
 use std::test::Fail;
@@ -18,6 +18,9 @@ fn shared_literals_are_listed_once(rt: HostRuntime) -> Result<(), Fail> {
     resolver.resolve(1, &not_one_three_four, &mut out)?;
     let two_three_four = [Lit::from_code(2), Lit::from_code(4), Lit::from_code(6)];
     assert_eq!(rt; out.as_slice(), two_three_four.as_slice());
+    let three_one_two = [Lit::from_code(4), Lit::from_code(0), Lit::from_code(2)];
+    assert!(rt; resolver.is_same(&three_one_two));
+    assert!(rt; !resolver.is_same(&two));
     resolver.hold(&two)?;
     assert_eq!(rt; resolver.held(), two.as_slice());
     assert!(rt; !resolver.is_tautology_with(1, &not_one_three_four));

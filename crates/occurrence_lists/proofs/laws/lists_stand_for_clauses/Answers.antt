@@ -1,4 +1,4 @@
-use Rattle.occurrence_lists.proofs.Standing.{added, removed, reordered, counted, held_is_listed, listed_is_held}
+use Rattle.occurrence_lists.proofs.Standing.{added, removed, kept, reordered, counted, held_is_listed, listed_is_held}
 use Rattle.occurrence_lists.proofs.laws.lists_stand_for_clauses.Goals as goal
 
 pub returns-clause-added : goal.returns-clause-added
@@ -18,3 +18,6 @@ returns-clause-there c = held_is_listed
 
 pub returns-clause-whose : goal.returns-clause-whose
 returns-clause-whose c = listed_is_held
+
+pub returns-clause-same : goal.returns-clause-same
+returns-clause-same c = kept
