@@ -1,3 +1,4 @@
+pub mod Results
 pub mod Joining
 pub mod Pairing
 pub mod Knowing

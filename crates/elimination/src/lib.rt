@@ -7,10 +7,12 @@
 //! The calls themselves aren't here yet.
 #![tactic(auto)]
 
+mod eligible;
 mod known;
 mod laws;
 mod pairs;
 
+pub use eligible::is_eligible;
 pub use known::is_known;
 pub use laws::{
     boards_are_searched, lists_decide_eligibility, own_clauses_decide, told_steps_join,
