@@ -7,6 +7,7 @@ use Rattle.lits.specs.Literal.{var, neg, of_var}
 use Rattle.lits.specs.Clause.{has, same_set, is_tautology}
 use Rattle.lits.proofs.Members.{here, there, any_from, has_at, has_from}
 use Rattle.clause_store.specs.Clauses.{Store, lits_at}
+use Rattle.resolvents.proofs.Clashing.{same_tests}
 use Rattle.restore.specs.Resolution.{of_variable, has_variable, is_plain, is_negated, holds, holds_negated}
 use Rattle.restore.proofs.Joined.{append_at, map_at, map_from}
 use Rattle.elimination_laws.specs.Eligible.{how_many, eligible, OftenAs}
@@ -16,11 +17,6 @@ use Rattle.occurrence_lists.proofs.Standing.{held_is_listed, listed_is_held, con
 use Rattle.elimination.specs.Pairs.{clauses_at, may_go, AreUsable}
 use Rattle.elimination.specs.Known.{numbered}
 use Rattle.elimination.proofs.Pairing.{own_clauses}
-
-same_tests : (a b : Bool) → (a ≡ true → b ≡ true) → (b ≡ true → a ≡ true) → a ≡ b
-same_tests true b f g = sym (f refl)
-same_tests false true f g = g refl
-same_tests false false f g = refl
 
 -- ---- A variable and its two literals
 
@@ -48,7 +44,7 @@ any-or p q r (l ∷ c) h = let e = h l in let n = any-or p q r c h in ap (λ z. 
     regroup false true false e = refl
     regroup false false d e = refl
 
-has_either : (x : ℕ) (c : List ℕ) → 0 < x → has_variable x c ≡ (has c (of_var x) || has c (neg (of_var x)))
+pub has_either : (x : ℕ) (c : List ℕ) → 0 < x → has_variable x c ≡ (has c (of_var x) || has c (neg (of_var x)))
 has_either x c z = any-or (of_variable x) (nat_eq (of_var x)) (nat_eq (neg (of_var x))) c (λ l. two_literals x l z)
 
 not_both : (l : ℕ) (c : List ℕ) → is_tautology c ≡ false → (has c l && has c (neg l)) ≡ false

@@ -3,4 +3,5 @@ pub mod Joining
 pub mod Pairing
 pub mod Knowing
 pub mod Deciding
+pub mod Seen
 mod Examples

@@ -12,7 +12,7 @@ mod known;
 mod laws;
 mod pairs;
 
-pub use eligible::is_eligible;
+pub use eligible::{is_eligible, is_eligible_on};
 pub use known::is_known;
 pub use laws::{
     boards_are_searched, lists_decide_eligibility, own_clauses_decide, told_steps_join,

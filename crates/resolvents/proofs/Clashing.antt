@@ -11,7 +11,7 @@ use Rattle.restore.proofs.Joined.{append_at, append_left, append_right}
 use Rattle.resolvents.specs.Held.{clashing}
 
 -- tests that are true together are the same
-same_tests : (a b : Bool) → (a ≡ true → b ≡ true) → (b ≡ true → a ≡ true) → a ≡ b
+pub same_tests : (a b : Bool) → (a ≡ true → b ≡ true) → (b ≡ true → a ≡ true) → a ≡ b
 same_tests true b f g = sym (f refl)
 same_tests false true f g = g refl
 same_tests false false f g = refl
