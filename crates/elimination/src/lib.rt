@@ -11,6 +11,8 @@ mod eligible;
 mod known;
 mod laws;
 mod pairs;
+#[cfg(test)]
+mod tests;
 
 pub use eligible::{is_eligible, is_eligible_on};
 pub use known::is_known;
