@@ -1,26 +1,22 @@
 -- The lists of a variable's two literals have just the irredundant clauses with it, each as often, so they decide its eligibility.
-use Rattle.std.proofs.Common.{◌≡◌, ℕ, suc, ◌+◌, ◌-◌, ◌*◌, ◌/◌, ◌<◌, Bool, true, false, not, ◌&&◌, ◌||◌, nat_eq, List, [], ◌∷◌, ◌++◌, length, length-append, filter, Contains, refl, sym, ap, ◌∙◌, subst, inl, inr, arith, eqb-true, eq-eqb}
+use Rattle.std.proofs.Common.{◌≡◌, ℕ, suc, ◌+◌, ◌-◌, ◌*◌, ◌/◌, ◌%◌, ◌<◌, Bool, true, false, not, ◌&&◌, ◌||◌, nat_eq, List, [], ◌∷◌, ◌++◌, length, length-append, filter, Contains, refl, sym, ap, ◌∙◌, subst, inl, inr, arith, eqb-true, eq-eqb}
 use Rattle.std.specs.List.{list_any}
-use Rattle.std.proofs.lemmas.Bool.{cases_Bool, both_ways, and_parts, and_from, or_cases, or_left, or_right, false_from_ne_true}
+use Rattle.std.proofs.lemmas.Bool.{cases_Bool, both_ways, and_parts, and_from, or_cases, or_left, or_right, false_from_ne_true, ne_eqb}
 use Rattle.std.proofs.lemmas.List.Elements.{filter-append}
 use Rattle.lits.specs.Literal.{var, neg, of_var}
 use Rattle.lits.specs.Clause.{has, same_set, is_tautology}
-use Rattle.lits.proofs.Members.{here, there, any_from, has_at}
+use Rattle.lits.proofs.Members.{here, there, any_from, has_at, has_from}
 use Rattle.clause_store.specs.Clauses.{Store, lits_at}
-use Rattle.restore.specs.Resolution.{of_variable, has_variable}
-use Rattle.restore.proofs.Joined.{append_at, map_at}
+use Rattle.resolvents.proofs.Clashing.{same_tests}
+use Rattle.restore.specs.Resolution.{of_variable, has_variable, is_plain, is_negated, holds, holds_negated}
+use Rattle.restore.proofs.Joined.{append_at, map_at, map_from}
 use Rattle.elimination_laws.specs.Eligible.{how_many, eligible, OftenAs}
 use Rattle.occurrence_lists.specs.Occurring.{row, StandsFor, Numbered, ids_with}
 use Rattle.occurrence_lists.proofs.Counting.{counts_from_times}
-use Rattle.occurrence_lists.proofs.Standing.{listed_is_held}
-use Rattle.elimination.specs.Pairs.{clauses_at, may_go}
+use Rattle.occurrence_lists.proofs.Standing.{held_is_listed, listed_is_held, contained}
+use Rattle.elimination.specs.Pairs.{clauses_at, may_go, AreUsable}
 use Rattle.elimination.specs.Known.{numbered}
 use Rattle.elimination.proofs.Pairing.{own_clauses}
-
-same_tests : (a b : Bool) → (a ≡ true → b ≡ true) → (b ≡ true → a ≡ true) → a ≡ b
-same_tests true b f g = sym (f refl)
-same_tests false true f g = g refl
-same_tests false false f g = refl
 
 -- ---- A variable and its two literals
 
@@ -48,7 +44,7 @@ any-or p q r (l ∷ c) h = let e = h l in let n = any-or p q r c h in ap (λ z. 
     regroup false true false e = refl
     regroup false false d e = refl
 
-has_either : (x : ℕ) (c : List ℕ) → 0 < x → has_variable x c ≡ (has c (of_var x) || has c (neg (of_var x)))
+pub has_either : (x : ℕ) (c : List ℕ) → 0 < x → has_variable x c ≡ (has c (of_var x) || has c (neg (of_var x)))
 has_either x c z = any-or (of_variable x) (nat_eq (of_var x)) (nat_eq (neg (of_var x))) c (λ l. two_literals x l z)
 
 not_both : (l : ℕ) (c : List ℕ) → is_tautology c ≡ false → (has c l && has c (neg l)) ≡ false
@@ -139,3 +135,44 @@ module _ (m : Store) (rows : List (List ℕ)) (ids : List ℕ) (x : ℕ) (z : 0 
   pub lists_decide : (frozen assigned : List ℕ) → eligible (clauses_at m ids) frozen assigned x
       ≡ ((not (has_variable x frozen) && not (has_variable x assigned)) && may_go (clauses_at m (row rows (of_var x)) ++ clauses_at m (row rows (neg (of_var x)))) x)
   lists_decide frozen assigned = own_clauses (clauses_at m ids) (clauses_at m (row rows (of_var x)) ++ clauses_at m (row rows (neg (of_var x)))) frozen assigned x each_has as_often
+
+-- ---- As code asks
+
+plain_of : (x : ℕ) → 0 < x → is_plain x (of_var x) ≡ true
+plain_of x z = and_from _ _ (eq-eqb (var (of_var x)) x (omega arith)) (eq-eqb (of_var x % 2) 0 (omega arith))
+
+negated_of : (x : ℕ) → 0 < x → is_negated x (neg (of_var x)) ≡ true
+negated_of x z = and_from _ _ (eq-eqb (var (neg (of_var x))) x (omega arith)) (ap not (ne_eqb (neg (of_var x) % 2) 0 (λ e. omega arith)))
+
+module _ (m : Store) (rows : List (List ℕ)) (ids : List ℕ) (s : StandsFor rows (numbered m ids)) where
+  listed_has : (l id : ℕ) → Contains (row rows l) id → has (lits_at m id) l ≡ true
+  listed_has l id k =
+      let n = listed_is_held rows (numbered m ids) id l s k in
+      let j = map_at (λ i. (i, lits_at m i)) ids n.0 n.1 in
+      let e : j.0 ≡ id = ap (λ (d : Numbered). d.0) j.2 ∙ n.2 in
+      let same : n.0.1 ≡ lits_at m id = sym (ap (λ (d : Numbered). d.1) j.2) ∙ ap (lits_at m) e in
+      subst (λ d. has d l ≡ true) same n.3
+
+  pub listed_holds : (x id : ℕ) → 0 < x → Contains (row rows (of_var x)) id → holds x (lits_at m id) ≡ true
+  listed_holds x id z k = any_from (is_plain x) (lits_at m id) (of_var x) (has_at (lits_at m id) (of_var x) (listed_has (of_var x) id k)) (plain_of x z)
+
+  pub listed_negated : (x id : ℕ) → 0 < x → Contains (row rows (neg (of_var x))) id → holds_negated x (lits_at m id) ≡ true
+  listed_negated x id z k = any_from (is_negated x) (lits_at m id) (neg (of_var x)) (has_at (lits_at m id) (neg (of_var x)) (listed_has (neg (of_var x)) id k)) (negated_of x z)
+
+  clean_one : (vars id : ℕ) → ((l : ℕ) → AreUsable m vars (row rows l)) → Contains ids id → (c : List ℕ) → c ≡ lits_at m id → is_tautology (lits_at m id) ≡ false
+  clean_one vars id u k [] e = ap is_tautology (sym e)
+  clean_one vars id u k (l ∷ c) e =
+      let h : has (lits_at m id) l ≡ true = subst (λ d. has d l ≡ true) e (has_from (l ∷ c) l (here l c)) in
+      let n : Contains (numbered m ids) (id, lits_at m id) = map_from (λ i. (i, lits_at m i)) ids id k in
+      (u l id (contained id (row rows l) (held_is_listed rows (numbered m ids) (id, lits_at m id) l s n h))).no_tautology
+
+  pub frozen_stays : (x : ℕ) (frozen assigned : List ℕ) → has_variable x frozen ≡ true → false ≡ eligible (clauses_at m ids) frozen assigned x
+  unfolding eligible
+  frozen_stays x frozen assigned h = rw h refl
+
+  pub decided : (vars x : ℕ) (frozen assigned : List ℕ) (b : Bool) → 0 < x → ((l : ℕ) → AreUsable m vars (row rows l)) → has_variable x frozen ≡ false → has_variable x assigned ≡ false
+      → b ≡ may_go (clauses_at m (row rows (of_var x)) ++ clauses_at m (row rows (neg (of_var x)))) x → b ≡ eligible (clauses_at m ids) frozen assigned x
+  decided vars x frozen assigned b z u f a e =
+      let d = lists_decide m rows ids x z s (λ id k. clean_one vars id u k (lits_at m id) refl) frozen assigned in
+      e ∙ sym (d ∙ ap (λ t. (not t && not (has_variable x assigned)) && may_go (clauses_at m (row rows (of_var x)) ++ clauses_at m (row rows (neg (of_var x)))) x) f
+      ∙ ap (λ t. (true && not t) && may_go (clauses_at m (row rows (of_var x)) ++ clauses_at m (row rows (neg (of_var x)))) x) a)

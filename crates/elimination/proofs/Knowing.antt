@@ -1,21 +1,17 @@
 -- A clause's set stands among clauses exactly where it stands among those that hold one of its literals.
-use Rattle.std.proofs.Common.{◌≡◌, ℕ, Bool, true, false, List, Contains, refl, sym, ap, ◌∙◌, subst}
+use Rattle.std.proofs.Common.{◌≡◌, ℕ, true, List, Contains, sym, ap, ◌∙◌, subst}
 use Rattle.std.specs.List.{list_any}
 use Rattle.std.proofs.lemmas.Bool.{and_parts}
 use Rattle.lits.specs.Clause.{has, same_set}
 use Rattle.lits.proofs.Members.{any_at, any_from, all_at, has_at}
 use Rattle.clause_store.specs.Clauses.{Store, lits_at}
+use Rattle.resolvents.proofs.Clashing.{same_tests}
 use Rattle.restore.specs.Stack.{has_set}
 use Rattle.restore.proofs.Joined.{map_at, map_from}
 use Rattle.occurrence_lists.specs.Occurring.{row, StandsFor, Numbered}
 use Rattle.occurrence_lists.proofs.Standing.{held_is_listed, listed_is_held, contained}
 use Rattle.elimination.specs.Pairs.{clauses_at}
 use Rattle.elimination.specs.Known.{numbered}
-
-same_tests : (a b : Bool) → (a ≡ true → b ≡ true) → (b ≡ true → a ≡ true) → a ≡ b
-same_tests true b f g = sym (f refl)
-same_tests false true f g = g refl
-same_tests false false f g = refl
 
 module _ (m : Store) (rows : List (List ℕ)) (ids c : List ℕ) (l : ℕ) (s : StandsFor rows (numbered m ids)) (h : has c l ≡ true) where
   into_row : list_any (same_set c) (clauses_at m ids) ≡ true → list_any (same_set c) (clauses_at m (row rows l)) ≡ true

@@ -1,5 +1,7 @@
+pub mod Results
 pub mod Joining
 pub mod Pairing
 pub mod Knowing
 pub mod Deciding
+pub mod Seen
 mod Examples

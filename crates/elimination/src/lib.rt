@@ -7,10 +7,14 @@
 //! The calls themselves aren't here yet.
 #![tactic(auto)]
 
+mod eligible;
 mod known;
 mod laws;
 mod pairs;
+#[cfg(test)]
+mod tests;
 
+pub use eligible::{is_eligible, is_eligible_on};
 pub use known::is_known;
 pub use laws::{
     boards_are_searched, lists_decide_eligibility, own_clauses_decide, told_steps_join,

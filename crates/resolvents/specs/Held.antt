@@ -35,9 +35,13 @@ pub record AreMarked (marks : List Bool) (clause : List ℕ) (vars : ℕ) : Type
   pub small : vars ≤ max_var
   pub set : (l : ℕ) → slice_index_or marks l false ≡ has clause l
 
+-- whether a literal isn't of the variable, and its negation passes a test
+abbrev pub clashing_by : (ℕ → Bool) → ℕ → ℕ → Bool
+clashing_by test x l = not (of_variable x l) && test (neg l)
+
 -- whether a literal isn't of the variable, and its negation has a mark
 abbrev pub clashing : List Bool → ℕ → ℕ → Bool
-clashing marks x l = not (of_variable x l) && slice_index_or marks (neg l) false
+clashing marks x l = clashing_by (λ m. slice_index_or marks m false) x l
 
 -- whether a literal isn't of the variable and has no mark
 abbrev pub unmarked : List Bool → ℕ → ℕ → Bool

@@ -12,7 +12,7 @@ ghost use Rattle.lits.specs.Literal.{neg};
 ghost use Rattle.lits.specs.Clause.{has, same_set, is_tautology};
 ghost use Rattle.clause_store.specs.Clauses.{IsOnce, firsts};
 ghost use Rattle.restore.specs.Resolution.{of_variable, without, resolvent};
-ghost use Rattle.resolvents.specs.Held.{AreReserved, AreBelow, empty, holding, reserving, clashing, marked, unmarked};
+ghost use Rattle.resolvents.specs.Held.{AreReserved, AreBelow, empty, holding, reserving, clashing, clashing_by, marked, unmarked};
 
 use lits::{Lit, MAX_VAR};
 use std::alloc::{AllocError, Global};
@@ -96,6 +96,42 @@ fn has_clash(marks: &[bool], var: u32, second: &[Lit]) -> bool
         }
     }
     false
+}
+
+/// Whether a clause has a literal.
+fn has_lit(lits: &[Lit], l: Lit) -> bool
+    ensures { result ≡ has lits.now l }
+{
+    lits.iter().any(|m| l == *m)
+}
+
+/// Whether a literal isn't of the variable, and a clause has its negation.
+fn meets(first: &[Lit], var: u32, l: Lit) -> bool
+    ensures { result ≡ clashing_by (has first.now) var l }
+{
+    is_other(var, l) && has_lit(first, l.neg())
+}
+
+/// Whether some literal of the second clause isn't of the variable, and the first has its negation.
+fn has_meeting(first: &[Lit], var: u32, second: &[Lit]) -> bool
+    ensures { result ≡ list_any (clashing_by (has first.now) var) second.now }
+{
+    for l in second {
+        if meets(first, var, *l) {
+            return true;
+        }
+    }
+    false
+}
+
+/// Whether the resolvent of two clauses on a variable is a tautology, where neither of the two is one. It looks at each pair of
+/// literals, and takes no memory; for one clause against many a [`Resolver`] is faster.
+pub fn is_tautology_of(var: u32, first: &[Lit], second: &[Lit]) -> bool
+    requires first { is_tautology first.now ≡ false }
+    requires second { is_tautology second.now ≡ false }
+    ensures { result ≡ is_tautology (resolvent var first.now second.now) }
+{
+    has_meeting(first, var, second)
 }
 
 /// Whether each of these literals has a mark.

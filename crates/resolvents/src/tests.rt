@@ -1,5 +1,5 @@
 // A resolvent with a shared literal, a tautology, the same set in another order, and what is held after another clause.
-use crate::Resolver;
+use crate::{Resolver, is_tautology_of};
 use lits::Lit;
 use std::test::Fail;
 
@@ -14,6 +14,8 @@ fn shared_literals_are_listed_once(rt: HostRuntime) -> Result<(), Fail> {
     resolver.hold(&one_two_three)?;
     assert!(rt; resolver.is_tautology_with(1, &not_one_not_two));
     assert!(rt; !resolver.is_tautology_with(1, &not_one_three_four));
+    assert!(rt; is_tautology_of(1, &one_two_three, &not_one_not_two));
+    assert!(rt; !is_tautology_of(1, &one_two_three, &not_one_three_four));
     let mut out = Vec::new(rt.alloc());
     resolver.resolve(1, &not_one_three_four, &mut out)?;
     let two_three_four = [Lit::from_code(2), Lit::from_code(4), Lit::from_code(6)];

@@ -1,12 +1,9 @@
-use Rattle.std.proofs.Common.{◌≡◌, ◌+◌, ◌<◌, ◌++◌, length, arith, Result, Ok, Err, IfOk}
+use Rattle.std.proofs.Common.{◌≡◌, ◌+◌, ◌<◌, ◌++◌, length, arith}
 use Rattle.elimination_laws.specs.Eligible.{has_few_resolvents}
 use Rattle.elimination.specs.Pairs.{clauses_at, may_go}
+use Rattle.elimination.proofs.Results.{more_ok}
 use Rattle.elimination.proofs.Pairing.{many_with, many_against, few_go}
 use Rattle.elimination.proofs.pairs.may_go.Goals as goal
-
-more_ok : {T E : Type 0} (r : Result T E) (P Q : T → Type 0) → ((x : T) → P x → Q x) → IfOk r P → IfOk r Q
-more_ok (Ok x) P Q f h = f x h
-more_ok (Err e) P Q f h = tt
 
 pub returns-then-with-gt-MOST_HOLDING-clause-goes : goal.returns-then-with-gt-MOST_HOLDING-clause-goes
 returns-then-with-gt-MOST_HOLDING-clause-goes c = many_with c.args.store.now c.args.resolver.now.reserved c.args.var c.args.with.now c.args.against.now c.requires.usable_with c.requires.usable_against c.requires.hold c.requires.hold_negation c.if-with-gt-MOST_HOLDING.true

@@ -1,4 +1,3 @@
-use Rattle.std.proofs.Common.{◌<◌}
 use Rattle.occurrence_lists.proofs.Standing.{added-there, more-there}
 use Rattle.occurrence_lists.proofs.tests.a_clause_comes_and_goes.Goals as goal
 
