@@ -4,6 +4,14 @@
 #![tactic(auto)]
 
 ghost use Rattle.std.specs.Prelude.{◌↔◌, ◌≡◌, ℕ, List};
+ghost use Rattle.session_rules.specs.declared.Form.TheVariants.{Idrup, Lidrup};
+ghost use Rattle.session_rules.specs.declared.Rule.{Rule};
+ghost use Rattle.session_rules.specs.declared.Step.{Step};
+ghost use Rattle.session_rules.specs.declared.LStep.{LStep};
+ghost use Rattle.session_rules.specs.Own.{events_of, id_events_of, standing_after, clause_of};
+ghost use Rattle.session_rules.specs.Verdicts.{OwnFault};
+ghost use Rattle.side_laws.specs.Sets.{standing_at, clause_at};
+ghost use Rattle.conversion_laws.specs.Converted.{IsConverted};
 ghost use Rattle.session_rules.specs.declared.Form.{Form};
 ghost use Rattle.session_rules.specs.declared.Verdict.TheVariants.{Accepted};
 ghost use Rattle.session_rules.specs.Pair.{verdict};
@@ -13,4 +21,13 @@ ghost use Rattle.conversion_laws.specs.Matched.{IsAccepted};
 /// proof's events. Of the proof this looks at the events alone, so two such proofs with the same events accept the same interactions.
 pub fn acceptance_goes_by_events()
     ensures { (form : Form) (a b : List ℕ) (n : ℕ) → (verdict form a b ≡ Accepted n) ↔ IsAccepted form a b n }
+{}
+
+/// The conversion of a proof says its events, leaves each id as the proof's steps do, and has no own fault where the proof has none.
+pub fn conversions_keep_the_rules()
+    ensures no_faults { (ps : List Step) (qs : List LStep) → IsConverted ps qs → ((k : ℕ) (rule : Rule) → OwnFault Idrup ps k rule → ⊥)
+        → (k : ℕ) (rule : Rule) → OwnFault Lidrup qs k rule → ⊥ }
+    ensures events { (ps : List Step) (qs : List LStep) → IsConverted ps qs → id_events_of qs ≡ events_of ps }
+    ensures standings { (ps : List Step) (qs : List LStep) → IsConverted ps qs → (id : ℕ) → standing_after qs id ≡ standing_at ps id }
+    ensures clauses { (ps : List Step) (qs : List LStep) → IsConverted ps qs → (id : ℕ) → clause_of qs id ≡ clause_at ps id }
 {}
