@@ -25,14 +25,8 @@ use Rattle.side_laws.proofs.Given.{id-within}
 use Rattle.side_laws.proofs.Named.{least-such}
 use Rattle.elimination_laws.proofs.Accepting.{faultless_at}
 use Rattle.conversion_laws.specs.Converted.{active_at, HintsClose, IsConvertedStep, input, lemma, deletion, weakening, restoring, query, status, model, core, AreConverted, IsConverted}
+use Rattle.conversion_laws.proofs.Joined.{parts_nil, join_nil}
 use Rattle.conversion_laws.proofs.Agreeing.{Agrees, nothing_agrees, agrees-push}
-
-parts_nil : {X : Type 0} (xs ys : List X) → xs ++ ys ≡ [] → (xs ≡ []) × (ys ≡ [])
-parts_nil [] ys h = (refl, h)
-parts_nil (x ∷ xs) ys h = cc h
-
-join_nil : {X : Type 0} (xs ys : List X) → xs ≡ [] → ys ≡ [] → xs ++ ys ≡ []
-join_nil xs ys e f = ap (λ z. z ++ ys) e ∙ f
 
 -- ---- One step
 

@@ -1,3 +1,5 @@
+pub mod Joined
 pub mod Matching
 pub mod Agreeing
 pub mod Converting
+pub mod Alike

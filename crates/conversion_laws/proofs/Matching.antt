@@ -16,6 +16,8 @@ use Rattle.session_rules.specs.History.{assumed, query_of}
 use Rattle.session_rules.specs.Pair.{ProofForm, Refusal, refusal, refusals, partner_count, owes_partner, partner_rules, partner_faults, missing_partner, match_faults, surplus, unfinished, one_refusal, step_partners, step_matches, faults_from, pair_refusals, own_faults_from, own_refusals, is_query, verdict_of, verdict_by, verdict}
 use Rattle.session_rules.specs.Verdicts.{body, rules_of, own_verdict, first_refusal, KeepsOwnRules}
 use Rattle.session_rules.proofs.LeastFault.{own_verdict_none}
+use Rattle.session_rules.proofs.Positions.{said}
+use Rattle.conversion_laws.proofs.Joined.{parts_nil, join_nil, said-ok}
 use Rattle.conversion_laws.specs.Matched.{agrees, has_partners, all_matched, query_count, IsAccepted}
 
 -- ---- Lists that are empty
@@ -26,13 +28,6 @@ nil_from (x ∷ xs) h = cc h
 
 is_nil_from : {X : Type 0} (xs : List X) → xs ≡ [] → is_nil xs ≡ true
 is_nil_from xs e = ap is_nil e
-
-parts_nil : {X : Type 0} (xs ys : List X) → xs ++ ys ≡ [] → (xs ≡ []) × (ys ≡ [])
-parts_nil [] ys h = (refl, h)
-parts_nil (x ∷ xs) ys h = cc h
-
-join_nil : {X : Type 0} (xs ys : List X) → xs ≡ [] → ys ≡ [] → xs ++ ys ≡ []
-join_nil xs ys e f = ap (λ z. z ++ ys) e ∙ f
 
 map_nil : {X Y : Type 0} (f : X → Y) (xs : List X) → map f xs ≡ [] → xs ≡ []
 map_nil f [] h = refl
@@ -93,15 +88,8 @@ none_surplus (l ∷ ls) h = cc h
 -- ---- All lines of a proof
 
 module _ {S : Type 0} (form : ProofForm S) where
-  abbrev said : List Line → List S
-  said ls = map (λ p. p.1) (values_of form.read ls)
-
   abbrev told : List S → List Event
   told ps = filter_map form.event ps
-
-  said-ok : (line : Line) (more : List Line) (p : S) → value_of form.read line ≡ Ok p → said (line ∷ more) ≡ p ∷ said more
-  unfolding values_of
-  said-ok line more p v = rw v refl
 
   faults-ok : (before : List S) (end : ℕ) (line : Line) (more ms : List Line) (p : S) → value_of form.read line ≡ Ok p
       → faults_from form before end (line ∷ more) ms ≡ refusals Proof line.number (form.faults before p)
@@ -174,7 +162,7 @@ module _ {S : Type 0} (form : ProofForm S) where
   -- no fault is in the list exactly where the proof has none of its own and its events have their partners
   record NoFaults (before : List S) (end : ℕ) (ls ms : List Line) : Type 0 where
     pub own : own_faults_from form before end ls ≡ []
-    pub matched : IsMatched before (said ls) ms
+    pub matched : IsMatched before (said form.read ls) ms
 
   at_end : (before : List S) (end : ℕ) (ms : List Line) → faults_from form before end [] ms ≡ [] → NoFaults before end [] ms
   unfolding faults_from own_faults_from values_of
@@ -193,7 +181,7 @@ module _ {S : Type 0} (form : ProofForm S) where
       let two = parts_nil (refusals Proof l.number (form.faults before p)) (step_matches form (assumed (told before)) l.number (form.event p) ms) one.0 in
       let rest = next p one.1 in record {
         own = own-ok before end l ls p e ∙ join_nil (refusals Proof l.number (form.faults before p)) _ two.0 rest.own;
-        matched = ap (λ z. all_matched (told before) (told z) ms) (said-ok l ls p e) ∙ step_matched before p (said ls) ms l.number (form.event p) refl two.1 rest.matched;
+        matched = ap (λ z. all_matched (told before) (told z) ms) (said-ok form.read l ls p e) ∙ step_matched before p (said form.read ls) ms l.number (form.event p) refl two.1 rest.matched;
       }
 
   faults_none : (ls : List Line) (before : List S) (end : ℕ) (ms : List Line) → faults_from form before end ls ms ≡ [] → NoFaults before end ls ms
@@ -206,7 +194,7 @@ module _ {S : Type 0} (form : ProofForm S) where
   none_more l ls ms before end next (Err r) e h = let f = sym (own-err before end l ls r e) ∙ h.own in cc f
   none_more l ls ms before end next (Ok p) e h =
       let one = parts_nil (refusals Proof l.number (form.faults before p)) _ (sym (own-ok before end l ls p e) ∙ h.own) in
-      let two = matched_step before p (said ls) ms l.number (form.event p) refl (sym (ap (λ z. all_matched (told before) (told z) ms) (said-ok l ls p e)) ∙ h.matched) in
+      let two = matched_step before p (said form.read ls) ms l.number (form.event p) refl (sym (ap (λ z. all_matched (told before) (told z) ms) (said-ok form.read l ls p e)) ∙ h.matched) in
       faults-ok before end l ls ms p e ∙ join_nil (refusals Proof l.number (form.faults before p) ++ step_matches form (assumed (told before)) l.number (form.event p) ms) _
       (join_nil (refusals Proof l.number (form.faults before p)) _ one.0 two.here) (next p (record { own = one.1; matched = two.later }))
 

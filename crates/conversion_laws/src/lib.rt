@@ -3,13 +3,16 @@
 //! the check proves it.
 #![tactic(auto)]
 
-ghost use Rattle.std.specs.Prelude.{◌↔◌, ◌≡◌, ℕ, List};
+ghost use Rattle.std.specs.Prelude.{◌↔◌, ◌≡◌, ◌≤◌, ℕ, List, length, All, Option, None, Some};
 ghost use Rattle.session_rules.specs.declared.Form.TheVariants.{Idrup, Lidrup};
 ghost use Rattle.session_rules.specs.declared.Rule.{Rule};
 ghost use Rattle.session_rules.specs.declared.Step.{Step};
 ghost use Rattle.session_rules.specs.declared.LStep.{LStep};
 ghost use Rattle.session_rules.specs.Own.{events_of, id_events_of, standing_after, clause_of};
-ghost use Rattle.session_rules.specs.Verdicts.{OwnFault};
+ghost use Rattle.session_rules.specs.Verdicts.{OwnFault, KeepsOwnRules, steps_in, events_among, own_verdict};
+ghost use Rattle.session_rules.specs.Lines.{most_bytes};
+ghost use Rattle.session_rules.specs.Spelling.{IsIdStep};
+ghost use Rattle.elimination_laws.specs.Accepted.{proof_text};
 ghost use Rattle.side_laws.specs.Sets.{standing_at, clause_at};
 ghost use Rattle.conversion_laws.specs.Converted.{IsConverted};
 ghost use Rattle.session_rules.specs.declared.Form.{Form};
@@ -30,4 +33,24 @@ pub fn conversions_keep_the_rules()
     ensures events { (ps : List Step) (qs : List LStep) → IsConverted ps qs → id_events_of qs ≡ events_of ps }
     ensures standings { (ps : List Step) (qs : List LStep) → IsConverted ps qs → (id : ℕ) → standing_after qs id ≡ standing_at ps id }
     ensures clauses { (ps : List Step) (qs : List LStep) → IsConverted ps qs → (id : ℕ) → clause_of qs id ≡ clause_at ps id }
+{}
+
+/// Two proofs, in one form or in two, that keep all rules by themselves and say the same events accept the same interactions, with
+/// the same number of queries.
+pub fn same_events_accept_alike()
+    ensures { (form other : Form) (b c : List ℕ) → KeepsOwnRules form b → KeepsOwnRules other c
+        → events_among form (steps_in form b) ≡ events_among other (steps_in other c)
+        → (a : List ℕ) (n : ℕ) → (verdict form a b ≡ Accepted n) ↔ (verdict other a c ≡ Accepted n) }
+{}
+
+/// The text of the conversion of a proof that keeps all rules by itself is accepted with exactly the interactions that the proof is
+/// accepted with, and with the same number of queries. A proof that has an own fault is accepted with none.
+pub fn conversions_are_accepted_alike()
+    ensures alike { (source : List ℕ) (qs : List LStep) → own_verdict Idrup source ≡ None → IsConverted (steps_in Idrup source) qs → All IsIdStep qs
+        → length (proof_text Lidrup qs) ≤ most_bytes
+        → (a : List ℕ) (n : ℕ) → (verdict Lidrup a (proof_text Lidrup qs) ≡ Accepted n) ↔ (verdict Idrup a source ≡ Accepted n) }
+    ensures keeps { (source : List ℕ) (qs : List LStep) → own_verdict Idrup source ≡ None → IsConverted (steps_in Idrup source) qs → All IsIdStep qs
+        → length (proof_text Lidrup qs) ≤ most_bytes → own_verdict Lidrup (proof_text Lidrup qs) ≡ None }
+    ensures never { (source : List ℕ) (fault : ℕ × Rule) → own_verdict Idrup source ≡ Some fault
+        → (a : List ℕ) (n : ℕ) → verdict Idrup a source ≡ Accepted n → ⊥ }
 {}
