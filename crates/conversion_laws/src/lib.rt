@@ -3,18 +3,19 @@
 //! the check proves it.
 #![tactic(auto)]
 
-ghost use Rattle.std.specs.Prelude.{◌↔◌, ◌≡◌, ◌≤◌, ℕ, List, length, All, Option, None, Some};
+ghost use Rattle.std.specs.Prelude.{◌↔◌, ◌≡◌, ◌≤◌, ◌<◌, ◌^◌, ℕ, ◌++◌, ◌∷◌, [], List, length, All, None, Some};
 ghost use Rattle.session_rules.specs.declared.Form.TheVariants.{Idrup, Lidrup};
 ghost use Rattle.session_rules.specs.declared.Rule.{Rule};
 ghost use Rattle.session_rules.specs.declared.Step.{Step};
+ghost use Rattle.session_rules.specs.declared.Step.TheVariants as steps;
 ghost use Rattle.session_rules.specs.declared.LStep.{LStep};
-ghost use Rattle.session_rules.specs.Own.{events_of, id_events_of, standing_after, clause_of};
+ghost use Rattle.session_rules.specs.Own.{own_faults, events_of, id_events_of, standing_after, clause_of};
 ghost use Rattle.session_rules.specs.Verdicts.{OwnFault, KeepsOwnRules, steps_in, events_among, own_verdict};
 ghost use Rattle.session_rules.specs.Lines.{most_bytes};
-ghost use Rattle.session_rules.specs.Spelling.{IsIdStep};
+ghost use Rattle.session_rules.specs.Spelling.{IsStep, IsIdStep};
 ghost use Rattle.elimination_laws.specs.Accepted.{proof_text};
-ghost use Rattle.side_laws.specs.Sets.{standing_at, clause_at};
-ghost use Rattle.conversion_laws.specs.Converted.{IsConverted};
+ghost use Rattle.side_laws.specs.Sets.{standing_at, clause_at, next_id, named_id};
+ghost use Rattle.conversion_laws.specs.Converted.{IsConvertedStep, IsConverted};
 ghost use Rattle.session_rules.specs.declared.Form.{Form};
 ghost use Rattle.session_rules.specs.declared.Verdict.TheVariants.{Accepted};
 ghost use Rattle.session_rules.specs.Pair.{verdict};
@@ -46,11 +47,31 @@ pub fn same_events_accept_alike()
 /// The text of the conversion of a proof that keeps all rules by itself is accepted with exactly the interactions that the proof is
 /// accepted with, and with the same number of queries. A proof that has an own fault is accepted with none.
 pub fn conversions_are_accepted_alike()
-    ensures alike { (source : List ℕ) (qs : List LStep) → own_verdict Idrup source ≡ None → IsConverted (steps_in Idrup source) qs → All IsIdStep qs
+    ensures alike { (source : List ℕ) (qs : List LStep) → own_verdict Idrup source ≡ None → IsConverted (steps_in Idrup source) qs
         → length (proof_text Lidrup qs) ≤ most_bytes
         → (a : List ℕ) (n : ℕ) → (verdict Lidrup a (proof_text Lidrup qs) ≡ Accepted n) ↔ (verdict Idrup a source ≡ Accepted n) }
-    ensures keeps { (source : List ℕ) (qs : List LStep) → own_verdict Idrup source ≡ None → IsConverted (steps_in Idrup source) qs → All IsIdStep qs
+    ensures keeps { (source : List ℕ) (qs : List LStep) → own_verdict Idrup source ≡ None → IsConverted (steps_in Idrup source) qs
         → length (proof_text Lidrup qs) ≤ most_bytes → own_verdict Lidrup (proof_text Lidrup qs) ≡ None }
     ensures never { (source : List ℕ) (fault : ℕ × Rule) → own_verdict Idrup source ≡ Some fault
         → (a : List ℕ) (n : ℕ) → verdict Idrup a source ≡ Accepted n → ⊥ }
+{}
+
+/// A conversion grows by a step and the step that it becomes. This has a spelling where the step has one and the next id has one.
+pub fn conversions_grow()
+    ensures nothing { IsConverted [] [] }
+    ensures grows { (ps : List Step) (qs : List LStep) (p : Step) (q : LStep) → IsConverted ps qs → IsConvertedStep ps p q
+        → IsConverted (ps ++ p ∷ []) (qs ++ q ∷ []) }
+    ensures fits { (ps : List Step) (p : Step) (q : LStep) → IsConvertedStep ps p q → IsStep p → next_id ps < 2 ^ 63 → IsIdStep q }
+    ensures all_fit { (source : List ℕ) (qs : List LStep) → IsConverted (steps_in Idrup source) qs
+        → length (proof_text Lidrup qs) ≤ most_bytes → All IsIdStep qs }
+{}
+
+/// A deletion, a weakening or a restoring that breaks no rule behind steps without own faults finds the id that it names.
+pub fn what_is_named_is_there()
+    ensures deleted { (ps : List Step) → ((k : ℕ) (rule : Rule) → OwnFault Idrup ps k rule → ⊥) → (c : List ℕ)
+        → own_faults ps (steps.Delete c) ≡ [] → (id : ℕ) × (named_id ps (steps.Delete c) ≡ Some id) }
+    ensures weakened { (ps : List Step) → ((k : ℕ) (rule : Rule) → OwnFault Idrup ps k rule → ⊥) → (c : List ℕ)
+        → own_faults ps (steps.Weaken c) ≡ [] → (id : ℕ) × (named_id ps (steps.Weaken c) ≡ Some id) }
+    ensures restored { (ps : List Step) → ((k : ℕ) (rule : Rule) → OwnFault Idrup ps k rule → ⊥) → (c : List ℕ)
+        → own_faults ps (steps.Restore c) ≡ [] → (id : ℕ) × (named_id ps (steps.Restore c) ≡ Some id) }
 {}
