@@ -6,3 +6,5 @@ pub mod Alike
 pub mod Fitting
 pub mod Growing
 pub mod Examples
+pub mod Kept
+pub mod Finding

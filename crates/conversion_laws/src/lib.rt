@@ -3,7 +3,12 @@
 //! the check proves it.
 #![tactic(auto)]
 
-ghost use Rattle.std.specs.Prelude.{◌↔◌, ◌≡◌, ◌≤◌, ◌<◌, ◌^◌, ℕ, ◌++◌, ◌∷◌, [], List, length, All, None, Some};
+ghost use Rattle.std.specs.Prelude.{◌↔◌, ◌≡◌, ◌≤◌, ◌<◌, ◌^◌, ℕ, ◌++◌, ◌∷◌, [], List, length, All, Option, None, Some, is_some, IsTrue};
+ghost use Rattle.lits.specs.Clause.{has};
+ghost use Rattle.session_rules.specs.Logic.{hints_fail};
+ghost use Rattle.clause_store.specs.Clauses.{IsOnce};
+ghost use Rattle.side_laws.specs.ClauseStates.{Clauses, active_in};
+ghost use Rattle.side_laws.specs.Ids.{SameClauses};
 ghost use Rattle.session_rules.specs.declared.Form.TheVariants.{Idrup, Lidrup};
 ghost use Rattle.session_rules.specs.declared.Rule.{Rule};
 ghost use Rattle.session_rules.specs.declared.Step.{Step};
@@ -14,8 +19,8 @@ ghost use Rattle.session_rules.specs.Verdicts.{OwnFault, KeepsOwnRules, steps_in
 ghost use Rattle.session_rules.specs.Lines.{most_bytes};
 ghost use Rattle.session_rules.specs.Spelling.{IsStep, IsIdStep};
 ghost use Rattle.elimination_laws.specs.Accepted.{proof_text};
-ghost use Rattle.side_laws.specs.Sets.{standing_at, clause_at, next_id, named_id};
-ghost use Rattle.conversion_laws.specs.Converted.{IsConvertedStep, IsConverted};
+ghost use Rattle.side_laws.specs.Sets.{standing_at, clause_at, next_id, named_id, HoldsSets};
+ghost use Rattle.conversion_laws.specs.Converted.{active_at, HintsClose, IsConvertedStep, IsConverted};
 ghost use Rattle.session_rules.specs.declared.Form.{Form};
 ghost use Rattle.session_rules.specs.declared.Verdict.TheVariants.{Accepted};
 ghost use Rattle.session_rules.specs.Pair.{verdict};
@@ -74,4 +79,12 @@ pub fn what_is_named_is_there()
         → own_faults ps (steps.Weaken c) ≡ [] → (id : ℕ) × (named_id ps (steps.Weaken c) ≡ Some id) }
     ensures restored { (ps : List Step) → ((k : ℕ) (rule : Rule) → OwnFault Idrup ps k rule → ⊥) → (c : List ℕ)
         → own_faults ps (steps.Restore c) ≡ [] → (id : ℕ) × (named_id ps (steps.Restore c) ≡ Some id) }
+{}
+
+/// Hints that close over the clauses that a side keeps are hints of the conversion: what is kept as active has the sets of the
+/// clauses that the steps leave active.
+pub fn kept_clauses_give_the_hints()
+    ensures kept { (m : Clauses) (next : ℕ) (ps : List Step) → HoldsSets m next ps → SameClauses (active_in m) (active_at ps) }
+    ensures hints { (f : ℕ → Option (List ℕ)) (ps : List Step) → SameClauses f (active_at ps) → (ls hints : List ℕ) → hints_fail f ls hints ≡ None
+        → IsOnce hints → ((id : ℕ) → IsTrue (has hints id) → IsTrue (is_some (f id))) → HintsClose ps ls hints }
 {}
