@@ -84,7 +84,7 @@ module _ {S : Type 0} (faults : List S → S → List Rule) where
   AreClean before [] = ⊤
   AreClean before (p ∷ ps) = (faults before p ≡ []) × AreClean (before ++ p ∷ []) ps
 
-  clean-from : (ps before : List S) → ((front : List S) (p : S) (after : List S) → before ++ ps ≡ front ++ p ∷ after → faults front p ≡ []) → AreClean before ps
+  pub clean-from : (ps before : List S) → ((front : List S) (p : S) (after : List S) → before ++ ps ≡ front ++ p ∷ after → faults front p ≡ []) → AreClean before ps
   clean-from [] before h = tt
   clean-from (p ∷ ps) before h = (h before p ps refl, clean-from ps (before ++ p ∷ []) (λ front q after e. h front q after (sym (append_assoc before (p ∷ []) ps) ∙ e)))
 

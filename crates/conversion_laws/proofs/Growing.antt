@@ -30,14 +30,14 @@ conversion_grows ps qs p q k c = grows_from ps [] qs p q k c
 
 -- ---- What is named is there
 
-position_found : {X : Type 0} (test : X → Bool) (i : ℕ) (xs : List X) → list_any test xs ≡ true → (id : ℕ) × (position_from test i xs ≡ Some id)
+pub position_found : {X : Type 0} (test : X → Bool) (i : ℕ) (xs : List X) → list_any test xs ≡ true → (id : ℕ) × (position_from test i xs ≡ Some id)
 position_found test i [] h = cc h
 position_found test i (x ∷ xs) h = elim (cases_Bool (test x)) [
   | inl y ↦ (i, rw y refl)
   | inr n ↦ let r = position_found test (i + 1) xs (rw n at h) in (r.0, rw n r.1)
 ]
 
-kept_is : (b : Bool) (r : Rule) → broken_unless b r ≡ [] → b ≡ true
+pub kept_is : (b : Bool) (r : Rule) → broken_unless b r ≡ [] → b ≡ true
 kept_is true r h = refl
 kept_is false r h = cc h
 
@@ -51,7 +51,7 @@ module _ (ps : List Step) (found : all_find [] ps ≡ true) (c : List ℕ) where
   weakened_there : (rule : Rule) → broken_unless (nat_lt 0 (weakened_copies ps c)) rule ≡ [] → list_any (is_such is_weakened c) (given_by ps) ≡ true
   weakened_there rule h = some_such is_weakened (subst (λ z. 0 < z) (count-weakened ps found c) (ltb-true _ _ (kept_is _ rule h)))
 
-step_finds : (ps : List Step) (p : Step) → all_find [] ps ≡ true → own_faults ps p ≡ [] → finds (given_by ps) p ≡ true
+pub step_finds : (ps : List Step) (p : Step) → all_find [] ps ≡ true → own_faults ps p ≡ [] → finds (given_by ps) p ≡ true
 unfolding own_faults
 step_finds ps (steps.Event e) found h = refl
 step_finds ps (steps.Lemma c) found h = refl
@@ -65,7 +65,7 @@ finds_along (p ∷ ps) before found none = let joined = append_assoc before (p �
     subst (λ z. all_find [] z ≡ true) joined (finds_along ps (before ++ p ∷ []) (find-push before p found (step_finds before p found (none before p ps refl)))
     (λ front q after e. none front q after (sym joined ∙ e)))
 
-nothing_sought : all_find [] [] ≡ true
+pub nothing_sought : all_find [] [] ≡ true
 unfolding all_find
 nothing_sought = refl
 

@@ -1,9 +1,8 @@
 -- Hints over the clauses that a side keeps are hints of the conversion.
-use Rattle.std.proofs.Common.{◌≡◌, ℕ, Bool, true, false, not, ◌&&◌, if◌then◌else◌, List, [], ◌∷◌, Contains, Option, Some, None, refl, sym, ◌∙◌, ap, subst}
+use Rattle.std.proofs.Common.{◌≡◌, ℕ, Bool, true, false, if◌then◌else◌, List, [], ◌∷◌, Option, Some, None, refl, sym, ◌∙◌, subst}
 use Rattle.std.specs.Prelude.{is_some, option_map}
-use Rattle.std.specs.FinMap.{get}
 use Rattle.std.proofs.lemmas.Bool.{and_from, not_from_false}
-use Rattle.lits.specs.Clause.{has, set_of}
+use Rattle.lits.specs.Clause.{has}
 use Rattle.lits.proofs.Members.{all_from, has_from}
 use Rattle.lits.proofs.Ascending.{same_set-set_of}
 use Rattle.session_rules.specs.declared.Step.{Step}

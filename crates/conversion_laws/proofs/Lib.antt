@@ -8,3 +8,4 @@ pub mod Growing
 pub mod Examples
 pub mod Kept
 pub mod Finding
+pub mod Existing

@@ -88,3 +88,8 @@ pub fn kept_clauses_give_the_hints()
     ensures hints { (f : ℕ → Option (List ℕ)) (ps : List Step) → SameClauses f (active_at ps) → (ls hints : List ℕ) → hints_fail f ls hints ≡ None
         → IsOnce hints → ((id : ℕ) → IsTrue (has hints id) → IsTrue (is_some (f id))) → HintsClose ps ls hints }
 {}
+
+/// Each proof without own faults has a conversion: what it names is there, and hints that close are there for each lemma and core.
+pub fn proofs_without_faults_have_a_conversion()
+    ensures { (ps : List Step) → ((k : ℕ) (rule : Rule) → OwnFault Idrup ps k rule → ⊥) → (qs : List LStep) × IsConverted ps qs }
+{}
