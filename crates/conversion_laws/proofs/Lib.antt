@@ -9,3 +9,4 @@ pub mod Examples
 pub mod Kept
 pub mod Finding
 pub mod Existing
+pub mod Judging

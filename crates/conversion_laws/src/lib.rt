@@ -3,7 +3,7 @@
 //! the check proves it.
 #![tactic(auto)]
 
-ghost use Rattle.std.specs.Prelude.{◌↔◌, ◌≡◌, ◌≤◌, ◌<◌, ◌^◌, ℕ, ◌++◌, ◌∷◌, [], List, length, All, Option, None, Some, is_some, IsTrue};
+ghost use Rattle.std.specs.Prelude.{◌↔◌, ◌≡◌, ◌≤◌, ◌<◌, ◌^◌, ℕ, ◌++◌, ◌∷◌, [], List, length, All, Option, None, Some, is_some, IsTrue, Ok, Err};
 ghost use Rattle.lits.specs.Clause.{has};
 ghost use Rattle.session_rules.specs.Logic.{hints_fail};
 ghost use Rattle.clause_store.specs.Clauses.{IsOnce};
@@ -11,12 +11,17 @@ ghost use Rattle.side_laws.specs.ClauseStates.{Clauses, active_in};
 ghost use Rattle.side_laws.specs.Ids.{SameClauses};
 ghost use Rattle.session_rules.specs.declared.Form.TheVariants.{Idrup, Lidrup};
 ghost use Rattle.session_rules.specs.declared.Rule.{Rule};
+ghost use Rattle.session_rules.specs.declared.Rule.TheVariants as rules;
+ghost use Rattle.session_rules.specs.declared.Phase.TheVariants.{Idle};
+ghost use Rattle.session_rules.specs.History.{phase};
+ghost use Rattle.session_rules.specs.Reading.{header_fault, value_of};
+ghost use Rattle.conversion_laws.specs.Judged.{kept_steps, IsJudged};
 ghost use Rattle.session_rules.specs.declared.Step.{Step};
 ghost use Rattle.session_rules.specs.declared.Step.TheVariants as steps;
 ghost use Rattle.session_rules.specs.declared.LStep.{LStep};
 ghost use Rattle.session_rules.specs.Own.{own_faults, events_of, id_events_of, standing_after, clause_of};
-ghost use Rattle.session_rules.specs.Verdicts.{OwnFault, KeepsOwnRules, steps_in, events_among, own_verdict};
-ghost use Rattle.session_rules.specs.Lines.{most_bytes};
+ghost use Rattle.session_rules.specs.Verdicts.{StepOf, rules_of, body, OwnFault, KeepsOwnRules, steps_in, events_among, own_verdict};
+ghost use Rattle.session_rules.specs.Lines.{Line, most_bytes, end_line};
 ghost use Rattle.session_rules.specs.Spelling.{IsStep, IsIdStep};
 ghost use Rattle.elimination_laws.specs.Accepted.{proof_text};
 ghost use Rattle.side_laws.specs.Sets.{standing_at, clause_at, next_id, named_id, HoldsSets};
@@ -92,4 +97,28 @@ pub fn kept_clauses_give_the_hints()
 /// Each proof without own faults has a conversion: what it names is there, and hints that close are there for each lemma and core.
 pub fn proofs_without_faults_have_a_conversion()
     ensures { (ps : List Step) → ((k : ℕ) (rule : Rule) → OwnFault Idrup ps k rule → ⊥) → (qs : List LStep) × IsConverted ps qs }
+{}
+
+/// A proof is judged by itself line by line, behind its header: where a line says a step without faults, judging goes on behind it.
+/// The first line that is broken, or whose step breaks a rule, decides, with the first rule that it breaks; and where no line is left,
+/// whether a query is open.
+pub fn proofs_are_judged_line_by_line()
+    ensures header { (form : Form) (b : List ℕ) (number : ℕ) (rule : Rule) → header_fault (rules_of form).name b ≡ Some (number, rule)
+        → own_verdict form b ≡ Some (number, rule) }
+    ensures begins { (form : Form) (b : List ℕ) → header_fault (rules_of form).name b ≡ None → IsJudged form b [] (body b) }
+    ensures goes_on { (form : Form) (b : List ℕ) (steps : List (StepOf form)) (line : Line) (more : List Line) (p : StepOf form)
+        → value_of (rules_of form).read line ≡ Ok p → (rules_of form).faults steps p ≡ []
+        → IsJudged form b steps (line ∷ more) → IsJudged form b (steps ++ p ∷ []) more }
+    ensures broken { (form : Form) (b : List ℕ) (steps : List (StepOf form)) (line : Line) (more : List Line) (rule : Rule)
+        → value_of (rules_of form).read line ≡ Err rule → IsJudged form b steps (line ∷ more)
+        → (own_verdict form b ≡ Some (line.number, rule)) × (kept_steps form b ≡ steps) }
+    ensures refused { (form : Form) (b : List ℕ) (steps : List (StepOf form)) (line : Line) (more : List Line) (p : StepOf form)
+        (rule : Rule) (others : List Rule) → value_of (rules_of form).read line ≡ Ok p → (rules_of form).faults steps p ≡ rule ∷ others
+        → IsJudged form b steps (line ∷ more) → (own_verdict form b ≡ Some (line.number, rule)) × (kept_steps form b ≡ steps) }
+    ensures unfinished { (form : Form) (b : List ℕ) (steps : List (StepOf form)) → IsJudged form b steps []
+        → (phase (events_among form steps) ≡ Idle → ⊥)
+        → (own_verdict form b ≡ Some (end_line b, rules.Unfinished)) × (kept_steps form b ≡ steps) }
+    ensures finished { (form : Form) (b : List ℕ) (steps : List (StepOf form)) → IsJudged form b steps []
+        → phase (events_among form steps) ≡ Idle
+        → (own_verdict form b ≡ None) × (steps_in form b ≡ steps) × (kept_steps form b ≡ steps) }
 {}
