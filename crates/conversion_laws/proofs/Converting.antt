@@ -88,7 +88,7 @@ module _ {S : Type 0} (faults : List S → S → List Rule) where
   clean-from [] before h = tt
   clean-from (p ∷ ps) before h = (h before p ps refl, clean-from ps (before ++ p ∷ []) (λ front q after e. h front q after (sym (append_assoc before (p ∷ []) ps) ∙ e)))
 
-  clean-at : (ps before : List S) → AreClean before ps → (k : ℕ) (p : S) → slice_get ps k ≡ Some p → faults (before ++ take k ps) p ≡ []
+  pub clean-at : (ps before : List S) → AreClean before ps → (k : ℕ) (p : S) → slice_get ps k ≡ Some p → faults (before ++ take k ps) p ≡ []
   clean-at [] before h k p e = cc e
   clean-at (q ∷ ps) before h zero p e = let f : q ≡ p = same_Some _ _ e in subst (λ z. faults (before ++ []) z ≡ []) f (subst (λ z. faults z q ≡ []) (sym (append-nil before)) h.0)
   clean-at (q ∷ ps) before h (suc k) p e = subst (λ z. faults z p ≡ []) (append_assoc before (q ∷ []) (take k ps)) (clean-at ps (before ++ q ∷ []) h.1 k p e)

@@ -41,11 +41,11 @@ module _ (form : Form) (b : List ℕ) where
     unfolding own_faults_from
     own-err r v = rw v refl
 
-    kept-ok : (p : StepOf form) → value_of (rules_of form).read line ≡ Ok p → kept_from form steps (line ∷ more) ≡ kept_line form steps (Ok p) (kept_from form (steps ++ p ∷ []) more)
+    pub kept-ok : (p : StepOf form) → value_of (rules_of form).read line ≡ Ok p → kept_from form steps (line ∷ more) ≡ kept_line form steps (Ok p) (kept_from form (steps ++ p ∷ []) more)
     unfolding kept_from
     kept-ok p v = ap (λ o. kept_line form steps o (kept_from form (with_said form steps o) more)) v
 
-    kept-err : (r : Rule) → value_of (rules_of form).read line ≡ Err r → kept_from form steps (line ∷ more) ≡ steps
+    pub kept-err : (r : Rule) → value_of (rules_of form).read line ≡ Err r → kept_from form steps (line ∷ more) ≡ steps
     unfolding kept_from
     kept-err r v = ap (λ o. kept_line form steps o (kept_from form (with_said form steps o) more)) v
 

@@ -10,3 +10,4 @@ pub mod Kept
 pub mod Finding
 pub mod Existing
 pub mod Judging
+pub mod First

@@ -22,7 +22,7 @@ use Rattle.conversion_laws.specs.Matched.{agrees, has_partners, all_matched, que
 
 -- ---- Lists that are empty
 
-nil_from : {X : Type 0} (xs : List X) → is_nil xs ≡ true → xs ≡ []
+pub nil_from : {X : Type 0} (xs : List X) → is_nil xs ≡ true → xs ≡ []
 nil_from [] h = refl
 nil_from (x ∷ xs) h = cc h
 

@@ -122,3 +122,9 @@ pub fn proofs_are_judged_line_by_line()
         → phase (events_among form steps) ≡ Idle
         → (own_verdict form b ≡ None) × (steps_in form b ≡ steps) × (kept_steps form b ≡ steps) }
 {}
+
+/// The steps of a proof before its first fault are the first of its steps, and have no own fault.
+pub fn steps_before_the_first_fault_have_none()
+    ensures first { (form : Form) (b : List ℕ) → (more : List (StepOf form)) × (steps_in form b ≡ kept_steps form b ++ more) }
+    ensures no_faults { (form : Form) (b : List ℕ) (k : ℕ) (rule : Rule) → OwnFault form (kept_steps form b) k rule → ⊥ }
+{}
