@@ -8,7 +8,7 @@ use Rattle.session_rules.specs.Lines.{Line, is_nil}
 use Rattle.session_rules.specs.Reading.{value_of, values_of}
 use Rattle.session_rules.specs.Verdicts.{StepOf, rules_of, body, steps_in, OwnFault}
 use Rattle.session_rules.proofs.Positions.{said}
-use Rattle.conversion_laws.specs.Judged.{kept_from, kept_steps}
+use Rattle.conversion_laws.specs.Judged.{kept_from, kept_steps, IsJudged}
 use Rattle.conversion_laws.proofs.Joined.{said-ok}
 use Rattle.conversion_laws.proofs.Matching.{nil_from}
 use Rattle.conversion_laws.proofs.Converting.{AreClean, clean-at}
@@ -66,3 +66,29 @@ module _ (form : Form) where
 
     pub kept_have_none : (k : ℕ) (rule : Rule) → OwnFault form (kept_steps form b) k rule → ⊥
     kept_have_none k rule f = not_in_nil rule (subst (λ z. Contains z rule) (clean-at faults (kept_steps form b) [] all_kept.clean k f.step f.is_step) f.breaks)
+
+-- ---- Steps that are judged
+
+kept_nothing : (form : Form) (steps : List (StepOf form)) → kept_from form steps [] ≡ steps
+unfolding kept_from
+kept_nothing form steps = refl
+
+begins_more : (form : Form) (b : List ℕ) (line : Line) (ls : List Line) (steps : List (StepOf form)) → ((p : StepOf form) → (more : List (StepOf form)) × (kept_from form (steps ++ p ∷ []) ls ≡ (steps ++ p ∷ []) ++ more))
+    → (v : Result (StepOf form) Rule) → value_of (rules_of form).read line ≡ v → (more : List (StepOf form)) × (kept_from form steps (line ∷ ls) ≡ steps ++ more)
+begins_more form b line ls steps next (Err r) e = ([], kept-err form b steps line ls r e ∙ sym (append-nil steps))
+begins_more form b line ls steps next (Ok p) e = elim (cases_Bool (is_nil ((rules_of form).faults steps p))) [
+  | inl y ↦ let r = next p in (p ∷ r.0, kept-ok form b steps line ls p e ∙ rw y (r.1 ∙ append_assoc steps (p ∷ []) r.0))
+  | inr n ↦ ([], kept-ok form b steps line ls p e ∙ rw n (sym (append-nil steps)))
+]
+
+-- what is kept begins with the steps behind which it is sought
+kept_begins : (form : Form) (b : List ℕ) (ls : List Line) (steps : List (StepOf form)) → (more : List (StepOf form)) × (kept_from form steps ls ≡ steps ++ more)
+kept_begins form b [] steps = ([], nothing_left)
+  where
+    nothing_left : kept_from form steps [] ≡ steps ++ []
+    nothing_left = kept_nothing form steps ∙ sym (append-nil steps)
+kept_begins form b (l ∷ ls) steps = begins_more form b l ls steps (λ p. kept_begins form b ls (steps ++ p ∷ [])) (value_of (rules_of form).read l) refl
+
+-- steps that are judged are the first of those that are kept
+pub judged_are_first : (form : Form) (b : List ℕ) (steps : List (StepOf form)) (left : List Line) → IsJudged form b steps left → (more : List (StepOf form)) × (kept_steps form b ≡ steps ++ more)
+judged_are_first form b steps left h = let r = kept_begins form b left steps in (r.0, h.kept ∙ r.1)

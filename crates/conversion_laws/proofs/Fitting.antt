@@ -1,8 +1,9 @@
 -- The steps of a conversion have a spelling: ids are counted from 1 on, and no more of them are given than the text has bytes.
-use Rattle.std.proofs.Common.{◌≡◌, ◌<◌, ◌≤◌, ◌^◌, ℕ, suc, ◌+◌, Bool, true, false, if◌then◌else◌, List, [], ◌∷◌, ◌++◌, length, flat_map, All, Option, Some, None, Result, Ok, Err, codes, refl, ap, arith}
+use Rattle.std.proofs.Common.{◌≡◌, ◌<◌, ◌≤◌, ◌^◌, ℕ, suc, ◌+◌, Bool, true, false, if◌then◌else◌, List, [], ◌∷◌, ◌++◌, length, flat_map, All, Option, Some, None, Result, Ok, Err, codes, refl, sym, ◌∙◌, ap, arith, append_assoc, append-nil}
 use Rattle.std.specs.List.{list_all}
 use Rattle.std.proofs.lemmas.Bool.{and_parts}
 use Rattle.std.proofs.lemmas.List.{length-append}
+use Rattle.std.proofs.lemmas.Grind.{flat_map-append}
 use Rattle.session_rules.specs.declared.Form.TheVariants.{Idrup, Lidrup}
 use Rattle.session_rules.specs.declared.Event.TheVariants as events
 use Rattle.session_rules.specs.declared.Rule.{Rule}
@@ -137,6 +138,14 @@ said_fit [] = nothing
     nothing : All IsStep (said idrup_line [])
     nothing = λ k d lt. absurd (let h = said_within idrup_line [] in omega arith)
 said_fit (l ∷ ls) = more_fit l ls (said_fit ls) (value_of idrup_line l) refl
+
+pub as_many : (ps : List Step) (qs : List LStep) → IsConverted ps qs → length qs ≡ length ps
+as_many ps qs k = sym (same_length ps [] qs k)
+
+-- one more line
+pub text_grows : (qs : List LStep) (q : LStep) → proof_text Lidrup (qs ++ q ∷ []) ≡ proof_text Lidrup qs ++ line_text (id_step_words q)
+text_grows qs q = ap (λ z. line_text (header_words (codes "lidrup")) ++ z) (flat_map-append (λ v. line_text (id_step_words v)) qs (q ∷ []) ∙ ap (λ z. flat_map (λ v. line_text (id_step_words v)) qs ++ z) (append-nil (line_text (id_step_words q))))
+    ∙ sym (append_assoc (line_text (header_words (codes "lidrup"))) (flat_map (λ v. line_text (id_step_words v)) qs) (line_text (id_step_words q)))
 
 -- a conversion of steps that were read has a spelling, where its text isn't too long
 pub conversion_fits : (source : List ℕ) (qs : List LStep) → IsConverted (steps_in Idrup source) qs → length (proof_text Lidrup qs) ≤ most_bytes → All IsIdStep qs
