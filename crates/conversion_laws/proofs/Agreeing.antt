@@ -1,5 +1,5 @@
 -- What steps without ids leave of each id is what their conversion leaves of it, and their events are the same.
-use Rattle.std.proofs.Common.{◌≡◌, ◌≢◌, ℕ, zero, suc, ◌<◌, Bool, false, nat_eq, List, [], ◌∷◌, ◌++◌, filter, filter_map, flat_map, Option, Some, None, refl, sym, ◌∙◌, ap, inl, inr, arith, eq-eqb, ne_eqb, append-nil}
+use Rattle.std.proofs.Common.{◌≡◌, ◌≢◌, ℕ, zero, suc, ◌<◌, Bool, false, if◌then◌else◌, nat_eq, List, [], ◌∷◌, ◌++◌, filter, filter_map, flat_map, Option, Some, None, refl, sym, ◌∙◌, ap, inl, inr, arith, eq-eqb, ne_eqb, append-nil}
 use Rattle.std.specs.Prelude.{slice_get, option_map}
 use Rattle.std.specs.List.{cons_option, position_from}
 use Rattle.std.proofs.lemmas.Bool.{cases_Bool}
@@ -22,17 +22,11 @@ use Rattle.conversion_laws.specs.Converted.{IsConvertedStep, input, lemma, delet
 
 -- ---- One more place that names an id
 
-module _ (ms : List (ℕ × Standing)) (i : ℕ) (s : Standing) where
-  standing-same : standing (ms ++ (i, s) ∷ []) i ≡ s
-  standing-same = rw (
-    filter-append (λ (m : ℕ × Standing). nat_eq m.0 i) ms ((i, s) ∷ []),
-    eq-eqb i i refl,
-    last_or-push (filter (λ (m : ℕ × Standing). nat_eq m.0 i) ms) None (i, s),
-  ) refl
-
-  standing-other : (id : ℕ) → id ≢ i → standing (ms ++ (i, s) ∷ []) id ≡ standing ms id
-  standing-other id ne = let other : nat_eq i id ≡ false = ne_eqb i id (λ e. ne (sym e)) in
-      rw (filter-append (λ (m : ℕ × Standing). nat_eq m.0 id) ms ((i, s) ∷ []), other, append-nil) refl
+standing-push : (ms : List (ℕ × Standing)) (i : ℕ) (s : Standing) (id : ℕ) → standing (ms ++ (i, s) ∷ []) id ≡ (if nat_eq i id then s else standing ms id)
+standing-push ms i s id = rw filter-append (elim (cases_Bool (nat_eq i id)) [
+  | inl y ↦ rw (y, last_or-push (filter (λ (m : ℕ × Standing). nat_eq m.0 id) ms) None (i, s)) refl
+  | inr n ↦ rw (n, append-nil) refl
+])
 
 -- ---- Each kind of step
 
@@ -99,9 +93,10 @@ module _ (ps : List Step) (qs : List LStep) (p : Step) (q : LStep) (same_event :
 
     stands : (id : ℕ) → standing (flat_map mentions qs ++ (next_id ps, Active) ∷ []) id ≡ standing_in new id
     stands id = elim (same_or_other id (next_id ps)) [
-      | inl y ↦ ap (standing (flat_map mentions qs ++ (next_id ps, Active) ∷ [])) y ∙ standing-same (flat_map mentions qs) (next_id ps) Active
-          ∙ sym (ap standing_or_absent (id-push (given_by ps) (standing_so Active c) id y))
-      | inr ne ↦ standing-other (flat_map mentions qs) (next_id ps) Active id ne ∙ a.standings id ∙ sym (ap standing_or_absent (id-other (given_by ps) (standing_so Active c) id ne))
+      | inl y ↦ standing-push (flat_map mentions qs) (next_id ps) Active id ∙ rw (eq-eqb (next_id ps) id (sym y))
+          (sym (ap standing_or_absent (id-push (given_by ps) (standing_so Active c) id y)))
+      | inr ne ↦ standing-push (flat_map mentions qs) (next_id ps) Active id ∙ rw (ne_eqb (next_id ps) id (λ y. ne (sym y)))
+          (a.standings id ∙ sym (ap standing_or_absent (id-other (given_by ps) (standing_so Active c) id ne)))
     ]
 
     clauses_now : (id : ℕ) → clause_of (qs ++ q ∷ []) id ≡ clause_in new id
@@ -128,8 +123,8 @@ module _ (ps : List Step) (qs : List LStep) (p : Step) (q : LStep) (same_event :
 
       turned_stands : (x : ℕ) → standing (flat_map mentions qs ++ (id, left) ∷ []) x ≡ standing_in turned x
       turned_stands x = elim (same_or_other x id) [
-        | inl y ↦ ap (standing (flat_map mentions qs ++ (id, left) ∷ [])) y ∙ standing-same (flat_map mentions qs) id left ∙ sym (ap standing_or_absent (there x y))
-        | inr ne ↦ standing-other (flat_map mentions qs) id left x ne ∙ a.standings x ∙ sym (ap standing_or_absent (others x ne))
+        | inl y ↦ standing-push (flat_map mentions qs) id left x ∙ rw (eq-eqb id x (sym y)) (sym (ap standing_or_absent (there x y)))
+        | inr ne ↦ standing-push (flat_map mentions qs) id left x ∙ rw (ne_eqb id x (λ y. ne (sym y))) (a.standings x ∙ sym (ap standing_or_absent (others x ne)))
       ]
 
       turned_clauses : (x : ℕ) → clause_of (qs ++ q ∷ []) x ≡ clause_in turned x

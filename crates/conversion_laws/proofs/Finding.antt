@@ -26,13 +26,9 @@ left_of_one (x ∷ xs) l m h = let e : x ≡ l = h x (here x xs) in
     let q : list_all (nat_eq x) xs ≡ true = all_from (nat_eq x) xs (λ y n. eq-eqb _ _ (e ∙ sym (h y (there x y xs n)))) in
     rw q (ap UnitLiteral e)
 
-left_of_none : (ls : List ℕ) → ((m : ℕ) → Contains ls m → ⊥) → left_of ls ≡ Falsified
-left_of_none [] h = refl
-left_of_none (x ∷ xs) h = absurd (h x (here x xs))
-
 falsified_left : (trues c : List ℕ) → is_falsified trues c ≡ true → left trues c ≡ Falsified
-falsified_left trues c h = left_of_none (filter (λ m. not (has trues (neg m))) c) (λ m k. let r = filter_at (λ m. not (has trues (neg m))) c m k in
-    both_ways _ (not-true _ r.1) (all_at (λ m. has trues (neg m)) c m h r.0))
+falsified_left trues [] h = refl
+falsified_left trues (m ∷ ms) h = let parts = and_parts (has trues (neg m)) (is_falsified trues ms) h in rw parts.0 (falsified_left trues ms parts.1)
 
 unit_left : (trues c : List ℕ) (l : ℕ) → is_unit trues c l ≡ true → has trues (neg l) ≡ false → left trues c ≡ UnitLiteral l
 unit_left trues c l h n = let parts = and_parts (has c l) _ h in
