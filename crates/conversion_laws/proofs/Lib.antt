@@ -1,0 +1,13 @@
+pub mod Joined
+pub mod Matching
+pub mod Agreeing
+pub mod Converting
+pub mod Alike
+pub mod Fitting
+pub mod Growing
+pub mod Examples
+pub mod Kept
+pub mod Finding
+pub mod Existing
+pub mod Judging
+pub mod First
