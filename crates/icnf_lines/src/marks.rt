@@ -118,8 +118,15 @@ pub(crate) fn meet_literal(table: &mut [Mark], dense: &Dense, l: Lit) -> Mark
 {
     match dense.find_lit(l) {
         Some(numbered) => meet_place(table, numbered),
-        None => BLANK,
+        None => no_mark(),
     }
+}
+
+/// The mark of a literal that has no number.
+fn no_mark() -> Mark
+    ensures { result ≡ BLANK }
+{
+    BLANK
 }
 
 /// The marks at a place, and marks it as met, if it is held. One beyond the table has no mark.
