@@ -5,6 +5,7 @@ use Rattle.std.specs.declared.option.Option.{Option}
 use Rattle.std.specs.Option.{option_or}
 use Rattle.std.proofs.lemmas.List.Folds.{find-append}
 use Rattle.lits.specs.Clause.{has}
+use Rattle.lits.specs.Numbering.{find_dense_lit}
 use Rattle.session_rules.specs.declared.LineFault.{LineFault}
 use Rattle.session_rules.specs.declared.Rule.TheVariants as rules
 use Rattle.session_rules.specs.History.{first_missing}
@@ -19,9 +20,10 @@ use Rattle.line_reading.proofs.Collecting.{literal_list_is, Collecting, collecti
 use Rattle.line_reading.proofs.WholeBodies.{body_then, body_fault, end_then, end_fails}
 use Rattle.icnf_lines.specs.declared.marks.Mark.{Mark}
 use Rattle.icnf_lines.specs.declared.meeting.Found.{Found}
-use Rattle.icnf_lines.specs.Marks.{mark_at, IsBlank, also_held, also_assumed, also_met, Changes}
-use Rattle.icnf_lines.specs.Partners.{LiteralsFound, LiteralsMet}
+use Rattle.icnf_lines.specs.Marks.{mark_in, mark_of, is_at, AreKnown, IsBlank, also_held, also_assumed, also_met, Changes, PlacesChange, PlaceChanges}
+use Rattle.icnf_lines.specs.Partners.{KeepsBlank, LiteralsFound, LiteralsMet}
 use Rattle.icnf_lines.proofs.Marking.{met_push}
+use Rattle.icnf_lines.proofs.Seeing.{one_met, none_seen, both_seen}
 
 -- ---- A list, and the line's end
 
@@ -38,21 +40,23 @@ list_broken : (o n : Reader) (fault : LineFault) → PartRead literal_list o n (
 list_broken o n fault h = in_line_map _ (ReadsBody literals_body (Err fault)) _ _ o n (same_fault fault Read) h (λ t u k. body_fault literal_list (λ ls ws. whole ls ws) fault o.place n.place t u k)
 
 -- what the loop over a line's literals keeps, with those so far
-pub record Finding (start now : List Mark) (stranger claim : Option ℕ) (old new : Reader) : Type 0 where
+pub record Finding (vars : List ℕ) (start now : List Mark) (stranger claim : Option ℕ) (old new : Reader) : Type 0 where
   pub literals : List ℕ
-  pub marks : Changes also_met start now literals
-  pub first_stranger : stranger ≡ find (λ l. not (mark_at start l).held) literals
-  pub first_claim : claim ≡ find (λ l. not (mark_at start l).assumed) literals
+  pub marks : Changes vars also_met start now literals
+  pub first_stranger : stranger ≡ find (λ l. not (mark_of vars start l).held) literals
+  pub first_claim : claim ≡ find (λ l. not (mark_of vars start l).assumed) literals
   pub read : Collecting literal_list literals old new
+  pub kept : KeepsBlank start now
 
 -- before the first literal
-pub finding_none : (start : List Mark) (o : Reader) → Finding start start None None o o
-finding_none start o = record {
+pub finding_none : (vars : List ℕ) (start : List Mark) (o : Reader) → Finding vars start start None None o o
+finding_none vars start o = record {
   literals = [];
-  marks = record { each = λ l. same_mark (mark_at start l) };
+  marks = record { each = λ l. same_mark (mark_of vars start l) };
   first_stranger = refl;
   first_claim = refl;
   read = collecting_none literal_list o;
+  kept = record { each = λ p e. e };
 }
   where
     same_mark : (m : Mark) → m ≡ also_met false m
@@ -71,23 +75,26 @@ find_more test ls l o p b so is e = e ∙ ap (λ z. option_or z (cond b (Some l)
 abbrev one_literal : List (List ℕ) → Part (Option ℕ)
 one_literal = word_part literal_says rules.Unclosed rules.Number
 
-module _ (start now : List Mark) (stranger claim : Option ℕ) (o p : Reader) (f : Finding start now stranger claim o p) where
+module _ (vars : List ℕ) (start now : List Mark) (stranger claim : Option ℕ) (o p : Reader) (f : Finding vars start now stranger claim o p) where
   -- a literal more, which has this mark
   pub finding_more : (next : List Mark) (stranger2 claim2 : Option ℕ) (q : Reader) (l : ℕ) (mark : Mark) → PartRead one_literal p q (Ok (Some l))
-      → mark ≡ mark_at now l → stranger2 ≡ option_or stranger (cond (not mark.held) (Some l) None) → claim2 ≡ option_or claim (cond (not mark.assumed) (Some l) None)
-      → Changes also_met now next (l ∷ []) → Finding start next stranger2 claim2 o q
-  finding_more next stranger2 claim2 q l mark word is s c change = record {
-    literals = f.literals ++ l ∷ [];
-    marks = met_push start now next f.literals l f.marks change;
-    first_stranger = find_more (λ l. not (mark_at start l).held) f.literals l stranger stranger2 (not mark.held) f.first_stranger (ap (λ z. not z.held) (is ∙ f.marks.each l)) s;
-    first_claim = find_more (λ l. not (mark_at start l).assumed) f.literals l claim claim2 (not mark.assumed) f.first_claim (ap (λ z. not z.assumed) (is ∙ f.marks.each l)) c;
-    read = collecting_more literal_list literal_says literal_list_is f.literals o p q f.read l word;
-  }
+      → (place : Option ℕ) → place ≡ find_dense_lit vars l → mark ≡ mark_in now place → stranger2 ≡ option_or stranger (cond (not mark.held) (Some l) None) → claim2 ≡ option_or claim (cond (not mark.assumed) (Some l) None)
+      → PlaceChanges also_met now next place → Finding vars start next stranger2 claim2 o q
+  finding_more next stranger2 claim2 q l mark word place at seen s c changed =
+      let is : mark ≡ mark_of vars now l = seen ∙ ap (mark_in now) at in
+      let change = one_met vars now next l place at changed in record {
+        literals = f.literals ++ l ∷ [];
+        marks = met_push vars start now next f.literals l f.marks change;
+        first_stranger = find_more (λ l. not (mark_of vars start l).held) f.literals l stranger stranger2 (not mark.held) f.first_stranger (ap (λ z. not z.held) (is ∙ f.marks.each l)) s;
+        first_claim = find_more (λ l. not (mark_of vars start l).assumed) f.literals l claim claim2 (not mark.assumed) f.first_claim (ap (λ z. not z.assumed) (is ∙ f.marks.each l)) c;
+        read = collecting_more literal_list literal_says literal_list_is f.literals o p q f.read l word;
+        kept = record { each = λ p e. changed.each p ∙ ap (also_met (is_at place p)) (f.kept.each p e) };
+      }
 
   -- ---- The end of the list, and of the line
 
   module _ (q n : Reader) (word : PartRead one_literal p q (Ok None)) where
-    pub found_all : (y : Unit) → EndRead q n (Ok y) → LiteralsFound start now (record { stranger = stranger; claim = claim }) o n
+    pub found_all : (y : Unit) → EndRead q n (Ok y) → LiteralsFound vars start now (record { stranger = stranger; claim = claim }) o n
     found_all y end = record {
       literals = f.literals;
       marks = f.marks;
@@ -116,16 +123,16 @@ find_members p r c (x ∷ xs) same within =
     or_more true b e = refl
     or_more false b e = e
 
-module _ (c qs : List ℕ) (t0 t1 t2 : List Mark) (none : IsBlank t0) (held : Changes also_held t0 t1 c) (assumed : Changes also_assumed t1 t2 qs) where
-  marked : (l : ℕ) → mark_at t2 l ≡ record { held = has c l; assumed = has qs l; met = false }
-  marked l = assumed.each l ∙ ap (also_assumed (has qs l)) (held.each l ∙ ap (also_held (has c l)) (none.each l))
+module _ (vars c qs : List ℕ) (t0 t1 t2 : List Mark) (none : IsBlank t0) (c_known : AreKnown vars c) (qs_known : AreKnown vars qs) (held : PlacesChange vars also_held t0 t1 c) (assumed : PlacesChange vars also_assumed t1 t2 qs) where
+  marked : (l : ℕ) → mark_of vars t2 l ≡ record { held = has c l; assumed = has qs l; met = false }
+  marked l = both_seen vars t1 t2 l qs also_assumed refl qs_known assumed ∙ ap (also_assumed (has qs l)) (both_seen vars t0 t1 l c also_held refl c_known held ∙ ap (also_held (has c l)) (none_seen vars t0 none l))
 
-  pub literals_met : (t3 : List Mark) (f : Found) (unmet : Option ℕ) (o n : Reader) → LiteralsFound t2 t3 f o n → unmet ≡ find (λ l. not (mark_at t3 l).met) c
+  pub literals_met : (t3 : List Mark) (f : Found) (unmet : Option ℕ) (o n : Reader) → LiteralsFound vars t2 t3 f o n → unmet ≡ find (λ l. not (mark_of vars t3 l).met) c
       → LiteralsMet c qs (record { stranger = f.stranger; unmet = unmet; claim = f.claim }) o n
   literals_met t3 f unmet o n h e = record {
     literals = h.literals;
     stranger = h.stranger ∙ ap (λ p. find p h.literals) (fun_ext (λ l. ap (λ m. not m.held) (marked l)));
-    unmet = e ∙ find_members (λ l. not (mark_at t3 l).met) (λ l. not (has h.literals l)) c c
+    unmet = e ∙ find_members (λ l. not (mark_of vars t3 l).met) (λ l. not (has h.literals l)) c c
         (λ l is. ap (λ m. not m.met) (h.marks.each l ∙ ap (also_met (has h.literals l)) (marked l)) ∙ ap (λ b. not (b && has h.literals l)) is) (λ l is. is);
     claim = h.claim ∙ ap (λ p. find p h.literals) (fun_ext (λ l. ap (λ m. not m.assumed) (marked l)));
     read = h.read;

@@ -3,9 +3,9 @@ use Rattle.std.proofs.Common.{◌≡◌, ℕ, Bool, true, false, ◌&&◌, ◌||
 use Rattle.std.proofs.lemmas.List.Folds.{list_any-append}
 use Rattle.lits.specs.Clause.{has}
 use Rattle.icnf_lines.specs.declared.marks.Mark.{Mark}
-use Rattle.icnf_lines.specs.Marks.{mark_at, also_met, Changes}
+use Rattle.icnf_lines.specs.Marks.{mark_of, also_met, Changes}
 
-or_false : (b : Bool) → (b || false) ≡ b
+pub or_false : (b : Bool) → (b || false) ≡ b
 or_false true = refl
 or_false false = refl
 
@@ -27,8 +27,8 @@ also_met-both a b m = ap (λ z. with_met z) (met_both m.held m.met a b)
     with_met : Bool → Mark
     with_met z = record m { met = z }
 
-pub met_push : (old now new : List Mark) (ls : List ℕ) (l : ℕ) → Changes also_met old now ls → Changes also_met now new (l ∷ []) → Changes also_met old new (ls ++ l ∷ [])
-met_push old now new ls l h k = record {
-  each = λ x. k.each x ∙ ap (λ b. also_met b (mark_at now x)) (or_false (nat_eq x l)) ∙ ap (also_met (nat_eq x l)) (h.each x) ∙ sym (also_met-both (has ls x) (nat_eq x l) (mark_at old x))
-      ∙ ap (λ b. also_met b (mark_at old x)) (sym (has-push ls l x));
+pub met_push : (vars : List ℕ) (old now new : List Mark) (ls : List ℕ) (l : ℕ) → Changes vars also_met old now ls → Changes vars also_met now new (l ∷ []) → Changes vars also_met old new (ls ++ l ∷ [])
+met_push vars old now new ls l h k = record {
+  each = λ x. k.each x ∙ ap (λ b. also_met b (mark_of vars now x)) (or_false (nat_eq x l)) ∙ ap (also_met (nat_eq x l)) (h.each x) ∙ sym (also_met-both (has ls x) (nat_eq x l) (mark_of vars old x))
+      ∙ ap (λ b. also_met b (mark_of vars old x)) (sym (has-push ls l x));
 }

@@ -30,7 +30,7 @@ use Rattle.icnf_lines.specs.declared.matching.Match.{Match}
 use Rattle.icnf_lines.specs.declared.matching.Match.TheVariants.{Agrees, Ended, Differs}
 use Rattle.icnf_lines.specs.declared.matching.MatchFault.{MatchFault}
 use Rattle.icnf_lines.specs.declared.matching.MatchFault.TheVariants.{Read}
-use Rattle.icnf_lines.specs.Marks.{mark_at}
+use Rattle.icnf_lines.specs.Marks.{mark_of}
 use Rattle.icnf_lines.specs.Partners.{LiteralsFound, match_fault}
 use Rattle.icnf_lines.specs.declared.meeting.Found.{Found}
 use Rattle.icnf_lines.specs.NextLine.{NextMatches, NextMatched}
@@ -226,13 +226,13 @@ failed_line faults.Read some f = refl
 failed_line faults.Memory some f = absurd (some refl)
 
 -- the first stranger among the marks is the first literal that the event lacks
-stranger_is : (table : List Mark) (c ls : List ℕ) → AreHeld table c → find (λ l. not (mark_at table l).held) ls ≡ first_missing ls c
-stranger_is table c ls held = ap (λ p. find p ls) (fun_ext (λ l. ap (λ b. not b) (held.each l)))
+stranger_is : (vars : List ℕ) (table : List Mark) (c ls : List ℕ) → AreHeld vars table c → find (λ l. not (mark_of vars table l).held) ls ≡ first_missing ls c
+stranger_is vars table c ls held = ap (λ p. find p ls) (fun_ext (λ l. ap (λ b. not b) (held.each l)))
 
 module _ (e : Event) (qs : List ℕ) (o m n : Reader) (letter : Letter) (entered : LetterRead o m (Ok (Some letter))) where
-  module _ (free : owes_partner e ≡ false) (table now : List Mark) (held : AreHeld table (event_literals e)) (found : Found) (literals : LiteralsFound table now found m n) where
+  module _ (free : owes_partner e ≡ false) (vars : List ℕ) (table now : List Mark) (held : AreHeld vars table (event_literals e)) (found : Found) (literals : LiteralsFound vars table now found m n) where
     rule_found : part_rule e found.stranger ≡ part_rule e (first_missing literals.literals (event_literals e))
-    rule_found = ap (part_rule e) (literals.stranger ∙ stranger_is table (event_literals e) literals.literals held)
+    rule_found = ap (part_rule e) (literals.stranger ∙ stranger_is vars table (event_literals e) literals.literals held)
 
     pub next_agrees : part_rule e found.stranger ≡ None → PartMatched (BeginWith (part_letter e)) e qs o n (Ok Agrees)
     next_agrees none = record {

@@ -22,25 +22,25 @@ use Rattle.icnf_lines.specs.declared.matching.Match.{Match}
 use Rattle.icnf_lines.specs.declared.matching.Match.TheVariants.{Agrees, Differs}
 use Rattle.icnf_lines.specs.declared.matching.MatchFault.{MatchFault}
 use Rattle.icnf_lines.specs.declared.matching.MatchFault.TheVariants.{Syntax, Read}
-use Rattle.icnf_lines.specs.Marks.{blank, mark_at, also_met, Changes}
+use Rattle.icnf_lines.specs.Marks.{blank, mark_at, mark_of, also_met, Changes}
 
 -- ---- Literals against marks
 
--- literals without a mark still have none
+-- places without a mark still have none
 pub record KeepsBlank (old new : List Mark) : Type 0 where
-  pub each : (l : ℕ) → mark_at old l ≡ blank → mark_at new l ≡ blank
+  pub each : (p : ℕ) → mark_at old p ≡ blank → mark_at new p ≡ blank
 
 -- the line has these literals; they were marked as met, and the first of them that isn't held was found, and that isn't assumed
-pub record LiteralsFound (start now : List Mark) (found : Found) (old new : Reader) : Type 0 where
+pub record LiteralsFound (vars : List ℕ) (start now : List Mark) (found : Found) (old new : Reader) : Type 0 where
   pub literals : List ℕ
-  pub marks : Changes also_met start now literals
-  pub stranger : found.stranger ≡ find (λ l. not (mark_at start l).held) literals
-  pub claim : found.claim ≡ find (λ l. not (mark_at start l).assumed) literals
+  pub marks : Changes vars also_met start now literals
+  pub stranger : found.stranger ≡ find (λ l. not (mark_of vars start l).held) literals
+  pub claim : found.claim ≡ find (λ l. not (mark_of vars start l).assumed) literals
   pub read : BodyRead literals_body old new (Ok literals)
 
-abbrev pub FindsLiterals : List Mark → List Mark → Reader → Reader → Result Found LineFault → Type 0
-FindsLiterals start now old new (Ok found) = LiteralsFound start now found old new
-FindsLiterals start now old new (Err fault) = BodyRead literals_body old new (Err fault)
+abbrev pub FindsLiterals : List ℕ → List Mark → List Mark → Reader → Reader → Result Found LineFault → Type 0
+FindsLiterals vars start now old new (Ok found) = LiteralsFound vars start now found old new
+FindsLiterals vars start now old new (Err fault) = BodyRead literals_body old new (Err fault)
 
 -- ---- Literals against literals
 

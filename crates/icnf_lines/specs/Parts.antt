@@ -19,7 +19,7 @@ use Rattle.icnf_lines.specs.declared.matching.Match.{Match}
 use Rattle.icnf_lines.specs.declared.matching.Match.TheVariants.{Agrees, Ended, Differs}
 use Rattle.icnf_lines.specs.declared.matching.MatchFault.{MatchFault}
 use Rattle.icnf_lines.specs.declared.matching.MatchFault.TheVariants.{Read}
-use Rattle.icnf_lines.specs.Marks.{mark_at}
+use Rattle.icnf_lines.specs.Marks.{mark_of}
 use Rattle.icnf_lines.specs.Matching.{IsGood, Matches}
 
 -- the letter of the line that tells all of a model or of a core, and that of the lines that tell parts of it
@@ -37,8 +37,8 @@ part_rule (events.Core u) stranger = option_map rules.FailedPart stranger
 part_rule _ stranger = option_map rules.ModelPart stranger
 
 -- the literals that are marked as held are these
-pub record AreHeld (table : List Mark) (ls : List ℕ) : Type 0 where
-  pub each : (l : ℕ) → (mark_at table l).held ≡ has ls l
+pub record AreHeld (vars : List ℕ) (table : List Mark) (ls : List ℕ) : Type 0 where
+  pub each : (l : ℕ) → (mark_of vars table l).held ≡ has ls l
 
 -- the first of some lines begins with this letter
 abbrev pub BeginWith : Letter → List Line → Type 0

@@ -3,13 +3,12 @@
 
 ghost use Rattle.std.specs.Prelude.{◌≡◌, ◌≤◌, ℕ, List, false, length, slice_get, option_map, All, IsErrOf};
 ghost use Rattle.std.specs.Option.{option_or};
-ghost use Rattle.lits.specs.Literal.{var};
 ghost use Rattle.session_rules.specs.declared.LineFault.{LineFault};
 ghost use Rattle.session_rules.specs.declared.Event.{Event};
 ghost use Rattle.session_rules.specs.History.{event_literals};
 ghost use Rattle.session_rules.specs.Pair.{pair_faults, owes_partner, same_letter, same_status};
 ghost use Rattle.line_reading.specs.Readers.{reader};
-ghost use Rattle.icnf_lines.specs.Marks.{HasPlace, IsBlank};
+ghost use Rattle.icnf_lines.specs.Marks.{AreKnown, HasRoom, IsBlank};
 ghost use Rattle.icnf_lines.specs.Matching.{LineMatched};
 ghost use Rattle.icnf_lines.specs.NextLine.{NextMatched};
 ghost use Rattle.icnf_lines.specs.Parts.{whole_letter};
@@ -22,7 +21,7 @@ use crate::marks::{Mark, Marks};
 use crate::meeting::{Met, meet};
 use crate::runs::{match_run, tells_part};
 use line_reading::{enter_line, peek_letter, status_body};
-use lits::Lit;
+use lits::{Dense, Lit};
 use outside::Source;
 use session_rules::{Event, Letter, LineFault, Rule, StatusWord};
 use slice_tokens::Window;
@@ -50,8 +49,9 @@ pub enum MatchFault {
 /// Goes on to the partners of the proof's event and holds them against it, under the literals of the proof's last query. The
 /// partner of an input, a query or a status is the next content line. Those of a model are the next line, where it begins with
 /// `m`, or else the lines with `v` that come next, which may be none; those of a core are a line with `u` or lines with `f`. No
-/// line is stored, and no memory is taken: literals are looked up in the table, which has to have room for the variables of the
-/// event and of the query, and has no mark after any answer.
+/// line is stored, and no memory is taken: literals are looked up in the table by their variables' numbers. Each
+/// variable of the event and of the query has to have a number, and the table room for as many; it has no mark after any answer.
+/// A literal of a line whose variable has no number is in neither the event nor the query.
 ///
 /// `Agrees` where no partner breaks a rule. The window then stands in the partner, or, behind lines with `v` or `f` and where
 /// there is none, before the first word of the next content line or at the end of the stream. `Ended` comes exactly where an
@@ -70,18 +70,20 @@ pub fn match_line<S: Source>(
     event: &Event,
     assumed: &[Lit],
     marks: &mut Marks,
+    dense: &Dense,
 ) -> Result<Match, MatchFault>
-    requires event { All (λ l. var l ≤ marks.old) (event_literals event.now) }
-    requires assumed { All (λ l. var l ≤ marks.old) assumed.now }
+    requires event { AreKnown dense.now (event_literals event.now) }
+    requires assumed { AreKnown dense.now assumed.now }
+    requires room { length dense.now ≤ marks.old }
     ensures line { let at = reader S.left S.faults in
         LineMatched event.now assumed.now (at window.old src.old) (at window.new src.new) result }
     ensures marks { marks.new ≡ marks.old }
 {
     let table = marks.table.as_mut_slice();
     if owes_partner(event) {
-        return match_next(window, src, event, assumed, table);
+        return match_next(window, src, event, assumed, dense, table);
     }
-    match_told(window, src, event, assumed, table)
+    match_told(window, src, event, assumed, dense, table)
 }
 
 /// Whether the event needs a partner. A model and a core need none.
@@ -100,11 +102,13 @@ fn match_told<S: Source>(
     src: &mut S,
     event: &Event,
     assumed: &[Lit],
+    dense: &Dense,
     table: &mut [Mark],
 ) -> Result<Match, MatchFault>
     requires free { owes_partner event.now ≡ false }
-    requires event { All (HasPlace (length table.old)) (event_literals event.now) }
-    requires assumed { All (HasPlace (length table.old)) assumed.now }
+    requires event { AreKnown dense.now (event_literals event.now) }
+    requires assumed { AreKnown dense.now assumed.now }
+    requires room { HasRoom (length table.old) dense.now }
     requires blank { IsBlank table.old }
     ensures line { let at = reader S.left S.faults in
         LineMatched event.now assumed.now (at window.old src.old) (at window.new src.new) result }
@@ -113,10 +117,10 @@ fn match_told<S: Source>(
     match peek_letter(window, src) {
         Ok(Some(letter)) => {
             if tells_whole(event, letter) {
-                return match_next(window, src, event, assumed, table);
+                return match_next(window, src, event, assumed, dense, table);
             }
             if tells_part(event, letter) {
-                return match_run(window, src, event, table);
+                return match_run(window, src, event, dense, table);
             }
             Ok(Match::Agrees)
         }
@@ -141,10 +145,12 @@ fn match_next<S: Source>(
     src: &mut S,
     event: &Event,
     assumed: &[Lit],
+    dense: &Dense,
     table: &mut [Mark],
 ) -> Result<Match, MatchFault>
-    requires event { All (HasPlace (length table.old)) (event_literals event.now) }
-    requires assumed { All (HasPlace (length table.old)) assumed.now }
+    requires event { AreKnown dense.now (event_literals event.now) }
+    requires assumed { AreKnown dense.now assumed.now }
+    requires room { HasRoom (length table.old) dense.now }
     requires blank { IsBlank table.old }
     ensures line { let at = reader S.left S.faults in
         NextMatched event.now assumed.now (at window.old src.old) (at window.new src.new) result }
@@ -152,7 +158,9 @@ fn match_next<S: Source>(
 {
     match enter_line(window, src) {
         Ok(None) => Ok(Match::Ended),
-        Ok(Some(letter)) => answer_of(partner_rule(window, src, letter, event, assumed, table)),
+        Ok(Some(letter)) => answer_of(partner_rule(
+            window, src, letter, event, assumed, dense, table,
+        )),
         Err(fault) => Err(match_fault(fault)),
     }
 }
@@ -185,10 +193,12 @@ fn partner_rule<S: Source>(
     letter: Letter,
     event: &Event,
     assumed: &[Lit],
+    dense: &Dense,
     table: &mut [Mark],
 ) -> Result<Option<Rule>, LineFault>
-    requires event { All (HasPlace (length table.old)) (event_literals event.now) }
-    requires assumed { All (HasPlace (length table.old)) assumed.now }
+    requires event { AreKnown dense.now (event_literals event.now) }
+    requires assumed { AreKnown dense.now assumed.now }
+    requires room { HasRoom (length table.old) dense.now }
     requires blank { IsBlank table.old }
     ensures rule { let at = reader S.left S.faults in
         partners.BodyAnswers letter event.now assumed.now
@@ -202,7 +212,7 @@ fn partner_rule<S: Source>(
         | Letter::Model
         | Letter::Core
         | Letter::Values
-        | Letter::Failed => literals_rule(window, src, letter, event, assumed, table),
+        | Letter::Failed => literals_rule(window, src, letter, event, assumed, dense, table),
         Letter::Status => match status_body(window, src) {
             Ok(status) => Ok(status_rule(event, status)),
             Err(fault) => Err(fault),
@@ -247,11 +257,13 @@ fn literals_rule<S: Source>(
     letter: Letter,
     event: &Event,
     assumed: &[Lit],
+    dense: &Dense,
     table: &mut [Mark],
 ) -> Result<Option<Rule>, LineFault>
     requires letter { partners.HasLiterals letter }
-    requires event { All (HasPlace (length table.old)) (event_literals event.now) }
-    requires assumed { All (HasPlace (length table.old)) assumed.now }
+    requires event { AreKnown dense.now (event_literals event.now) }
+    requires assumed { AreKnown dense.now assumed.now }
+    requires room { HasRoom (length table.old) dense.now }
     requires blank { IsBlank table.old }
     ensures rule { let at = reader S.left S.faults in
         partners.BodyAnswers letter event.now assumed.now
@@ -264,6 +276,7 @@ fn literals_rule<S: Source>(
         src,
         event.lits(),
         assumed_in(letter, assumed),
+        dense,
         table,
     ) {
         Ok(met) => Ok(rule_of(letter, event, met)),

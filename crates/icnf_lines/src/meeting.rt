@@ -10,12 +10,12 @@ ghost use Rattle.session_rules.specs.Reading.{literal_list};
 ghost use Rattle.slice_tokens.specs.Place.{ahead, WhereTold};
 ghost use Rattle.line_reading.specs.Parts.{ReadsPart, Stays};
 ghost use Rattle.line_reading.specs.Readers.{Reader, reader, PartRead};
-ghost use Rattle.icnf_lines.specs.Marks.{HasPlace, IsBlank};
+ghost use Rattle.icnf_lines.specs.Marks.{AreKnown, HasRoom, IsBlank};
 ghost use Rattle.icnf_lines.specs.Partners as partners;
 
-use crate::marks::{Mark, clear, first_unmet, mark_assumed, mark_held, mark_met, mark_of};
+use crate::marks::{Mark, clear, first_unmet, mark_assumed, mark_held, meet_literal};
 use line_reading::{LiteralWords, end_line, next_word, pass_literals};
-use lits::Lit;
+use lits::{Dense, Lit};
 use outside::Source;
 use session_rules::LineFault;
 use slice_tokens::Window;
@@ -73,10 +73,12 @@ pub(crate) fn meet<S: Source>(
     src: &mut S,
     held: &[Lit],
     assumed: &[Lit],
+    dense: &Dense,
     table: &mut [Mark],
 ) -> Result<Met, LineFault>
-    requires held { All (HasPlace (length table.old)) held.now }
-    requires assumed { All (HasPlace (length table.old)) assumed.now }
+    requires held { AreKnown dense.now held.now }
+    requires assumed { AreKnown dense.now assumed.now }
+    requires room { HasRoom (length table.old) dense.now }
     requires blank { IsBlank table.old }
     ensures met { let at = reader S.left S.faults in
         partners.MeetsLiterals held.now assumed.now
@@ -87,12 +89,12 @@ pub(crate) fn meet<S: Source>(
     if pass_same(window, held, assumed) {
         return meet_same(window, src, held);
     }
-    mark_held(table, held);
-    mark_assumed(table, assumed);
-    let found = find_literals(window, src, table);
-    let unmet = first_unmet(table, held);
-    clear(table, held);
-    clear(table, assumed);
+    mark_held(table, dense, held);
+    mark_assumed(table, dense, assumed);
+    let found = find_literals(window, src, dense, table);
+    let unmet = first_unmet(table, dense, held);
+    clear(table, dense, held);
+    clear(table, dense, assumed);
     match found {
         Ok(found) => Ok(Met {
             stranger: found.stranger,
@@ -114,10 +116,11 @@ pub(crate) struct Found {
 pub(crate) fn find_literals<S: Source>(
     window: &mut Window,
     src: &mut S,
+    dense: &Dense,
     table: &mut [Mark],
 ) -> Result<Found, LineFault>
     ensures found { let at = reader S.left S.faults in
-        partners.FindsLiterals table.old table.new
+        partners.FindsLiterals dense.now table.old table.new
         (at window.old src.old) (at window.new src.new) result }
     ensures kept { partners.KeepsBlank table.old table.new }
     ensures memory { IsErrOf result LineFault.Memory → ⊥ }
@@ -127,10 +130,9 @@ pub(crate) fn find_literals<S: Source>(
     'literals: loop {
         match next_word::<S, LiteralWords>(window, src) {
             Ok(Some(l)) => {
-                let mark = mark_of(table, l);
+                let mark = meet_literal(table, dense, l);
                 stranger = first_of(stranger, !mark.held, l);
                 claim = first_of(claim, !mark.assumed, l);
-                mark_met(table, l);
             }
             Ok(None) => match end_line(window, src) {
                 Ok(()) => return Ok(Found { stranger, claim }),

@@ -5,7 +5,7 @@ ghost use Rattle.std.specs.Prelude.{◌≡◌, ◌<◌, ℕ, List, false, Ok, le
 ghost use Rattle.session_rules.specs.History.{event_literals};
 ghost use Rattle.session_rules.specs.Pair.{owes_partner, run_length, same_letter};
 ghost use Rattle.line_reading.specs.Readers.{reader};
-ghost use Rattle.icnf_lines.specs.Marks.{HasPlace, IsBlank};
+ghost use Rattle.icnf_lines.specs.Marks.{AreKnown, HasRoom, IsBlank};
 ghost use Rattle.icnf_lines.specs.Partners.{KeepsBlank};
 ghost use Rattle.icnf_lines.specs.Matching.{Matched};
 ghost use Rattle.icnf_lines.specs.Parts as parts;
@@ -14,7 +14,7 @@ use crate::marks::{Mark, clear, mark_held};
 use crate::matching::{Match, MatchFault, failed_rule, match_fault, model_rule};
 use crate::meeting::find_literals;
 use line_reading::{enter_line, peek_letter};
-use lits::Lit;
+use lits::{Dense, Lit};
 use outside::Source;
 use session_rules::{Event, Letter, Rule};
 use slice_tokens::Window;
@@ -45,19 +45,21 @@ pub(crate) fn match_run<S: Source>(
     window: &mut Window,
     src: &mut S,
     event: &Event,
+    dense: &Dense,
     table: &mut [Mark],
 ) -> Result<Match, MatchFault>
     requires free { owes_partner event.now ≡ false }
-    requires event { All (HasPlace (length table.old)) (event_literals event.now) }
+    requires event { AreKnown dense.now (event_literals event.now) }
+    requires room { HasRoom (length table.old) dense.now }
     requires blank { IsBlank table.old }
     ensures run { (qs : List ℕ) → let at = reader S.left S.faults in
         Matched (run_length (parts.part_letter event.now)) event.now qs
         (at window.old src.old) (at window.new src.new) result }
     ensures blank { IsBlank table.new }
 {
-    mark_held(table, event.lits());
-    let answer = match_parts(window, src, event, table);
-    clear(table, event.lits());
+    mark_held(table, dense, event.lits());
+    let answer = match_parts(window, src, event, dense, table);
+    clear(table, dense, event.lits());
     answer
 }
 
@@ -66,17 +68,18 @@ fn match_parts<S: Source>(
     window: &mut Window,
     src: &mut S,
     event: &Event,
+    dense: &Dense,
     table: &mut [Mark],
 ) -> Result<Match, MatchFault>
     requires free { owes_partner event.now ≡ false }
-    requires held { parts.AreHeld table.old (event_literals event.now) }
+    requires held { parts.AreHeld dense.now table.old (event_literals event.now) }
     ensures run { (qs : List ℕ) → let at = reader S.left S.faults in
         Matched (run_length (parts.part_letter event.now)) event.now qs
         (at window.old src.old) (at window.new src.new) result }
     ensures kept { KeepsBlank table.old table.new }
 {
     'lines: loop {
-        match next_part(window, src, event, table) {
+        match next_part(window, src, event, dense, table) {
             Ok(Match::Agrees) => {}
             Ok(Match::Ended) => return Ok(Match::Agrees),
             Ok(Match::Differs(rule)) => return Ok(Match::Differs(rule)),
@@ -90,20 +93,21 @@ fn next_part<S: Source>(
     window: &mut Window,
     src: &mut S,
     event: &Event,
+    dense: &Dense,
     table: &mut [Mark],
 ) -> Result<Match, MatchFault>
     requires free { owes_partner event.now ≡ false }
-    requires held { parts.AreHeld table.old (event_literals event.now) }
+    requires held { parts.AreHeld dense.now table.old (event_literals event.now) }
     ensures part { (qs : List ℕ) → let at = reader S.left S.faults in
         parts.PartMatched parts.AnyLines event.now qs (at window.old src.old) (at window.new src.new) result }
     ensures progress { result ≡ Ok Match.Agrees → window.old.passed < window.new.passed }
-    ensures held { result ≡ Ok Match.Agrees → parts.AreHeld table.new (event_literals event.now) }
+    ensures held { result ≡ Ok Match.Agrees → parts.AreHeld dense.now table.new (event_literals event.now) }
     ensures kept { KeepsBlank table.old table.new }
 {
     match peek_letter(window, src) {
         Ok(Some(letter)) => {
             if tells_part(event, letter) {
-                return match_part(window, src, event, table);
+                return match_part(window, src, event, dense, table);
             }
             Ok(Match::Ended)
         }
@@ -117,19 +121,20 @@ fn match_part<S: Source>(
     window: &mut Window,
     src: &mut S,
     event: &Event,
+    dense: &Dense,
     table: &mut [Mark],
 ) -> Result<Match, MatchFault>
     requires free { owes_partner event.now ≡ false }
-    requires held { parts.AreHeld table.old (event_literals event.now) }
+    requires held { parts.AreHeld dense.now table.old (event_literals event.now) }
     ensures part { (qs : List ℕ) → let at = reader S.left S.faults in
         parts.PartMatched (parts.BeginWith (parts.part_letter event.now)) event.now qs
         (at window.old src.old) (at window.new src.new) result }
     ensures progress { result ≡ Ok Match.Agrees → window.old.passed < window.new.passed }
-    ensures held { result ≡ Ok Match.Agrees → parts.AreHeld table.new (event_literals event.now) }
+    ensures held { result ≡ Ok Match.Agrees → parts.AreHeld dense.now table.new (event_literals event.now) }
     ensures kept { KeepsBlank table.old table.new }
 {
     match enter_line(window, src) {
-        Ok(Some(_)) => match find_literals(window, src, table) {
+        Ok(Some(_)) => match find_literals(window, src, dense, table) {
             Ok(found) => match part_rule(event, found.stranger) {
                 None => Ok(Match::Agrees),
                 Some(rule) => Ok(Match::Differs(rule)),

@@ -1,11 +1,11 @@
 // What each pair of lines gives, each text in pieces of one byte and as a whole.
 
-ghost use Rattle.std.specs.Prelude.{◌≡◌, ◌<◌, ◌≤◌, IsTrue, All};
-ghost use Rattle.lits.specs.Literal.{var};
+ghost use Rattle.std.specs.Prelude.{◌≡◌, ◌<◌, IsTrue};
+ghost use Rattle.icnf_lines.specs.Marks.{AreKnown};
 
 use crate::{Marks, Match, MatchFault, match_line, read_line};
 use line_reading::Spare;
-use lits::Lit;
+use lits::{Dense, Lit};
 use outside::MemorySource;
 use session_rules::{Event, Rule};
 use slice_tokens::Window;
@@ -24,32 +24,49 @@ fn source(alloc: Global, bytes: &[u8], most: usize) -> Result<MemorySource, Allo
     Ok(MemorySource::new(pieces, Vec::new(alloc)))
 }
 
-// Whether the variables of literals are at most this one.
-fn are_within(lits: &[Lit], vars: u32) -> bool
-    ensures { IsTrue result → All (λ l. var l ≤ vars) lits.now }
+// Whether the variables of literals have numbers.
+fn are_known(dense: &Dense, lits: &[Lit]) -> bool
+    ensures { IsTrue result → AreKnown dense.now lits.now }
 {
-    lits.iter().all(|l| l.var() <= vars)
+    for l in lits {
+        if dense.find_lit(*l).is_none() {
+            return false;
+        }
+    }
+    true
 }
 
-// Holds the next line against an event; none where their variables are above 9.
+// Numbers the variables of literals.
+fn number_all(dense: &mut Dense, lits: &[Lit]) -> Result<(), AllocError> {
+    for l in lits {
+        let _ = dense.number_lit(*l)?;
+    }
+    Ok(())
+}
+
+// Holds the next line against an event; none where a variable has no number, or more than 9 have one.
 fn held_against(
     window: &mut Window,
     lines: &mut MemorySource,
     event: &Event,
     assumed: &[Lit],
     marks: &mut Marks,
+    dense: &Dense,
 ) -> Option<Result<Match, MatchFault>>
     requires { marks.old ≡ 9 }
     ensures { marks.new ≡ 9 }
 {
+    if dense.count() > 9 {
+        return None;
+    }
     let lits = event.lits();
-    if !are_within(lits, 9) {
+    if !are_known(dense, lits) {
         return None;
     }
-    if !are_within(assumed, 9) {
+    if !are_known(dense, assumed) {
         return None;
     }
-    Some(match_line(window, lines, event, assumed, marks))
+    Some(match_line(window, lines, event, assumed, marks, dense))
 }
 
 // Holds the lines of an interaction against those of a proof in turn, with one table, and gives the last answer.
@@ -69,11 +86,21 @@ fn matched(
     let mut lines_window = Window::new(alloc)?;
     let mut marks = Marks::new(alloc);
     marks.reserve(9)?;
+    let mut dense = Dense::new(alloc);
+    number_all(&mut dense, assumed)?;
     let mut answer = None;
     for _ in 0..9 {
         match read_line(&mut spare, &mut events_window, &mut events) {
             Ok(Some(event)) => {
-                answer = held_against(&mut lines_window, &mut lines, &event, assumed, &mut marks);
+                number_all(&mut dense, event.lits())?;
+                answer = held_against(
+                    &mut lines_window,
+                    &mut lines,
+                    &event,
+                    assumed,
+                    &mut marks,
+                    &dense,
+                );
             }
             _ => return Ok(answer),
         }

@@ -1,6 +1,6 @@
 use Rattle.std.proofs.Common.{take}
-use Rattle.icnf_lines.specs.Marks.{cleared, Changes}
+use Rattle.icnf_lines.specs.Marks.{cleared, PlacesChange}
 use Rattle.icnf_lines.proofs.marks.clear.Given as goal
 
 abbrev pub invariant-loop-l : goal.invariant-loop-l
-invariant-loop-l l = Changes cleared l.fn.table l.table (take l.l-index l.lits)
+invariant-loop-l l = PlacesChange l.dense cleared l.fn.table l.table (take l.l-index l.lits)
