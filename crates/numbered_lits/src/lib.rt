@@ -9,7 +9,7 @@ ghost use Rattle.std.specs.Prelude.{◌≡◌, ℕ, ◌+◌, ◌≤◌, [], leng
 ghost use Rattle.lits.specs.Literal.{max_var};
 ghost use Rattle.lits.specs.Numbering.{IsNumbering, are_known, dense_lits, with_lits, numbered_lits};
 ghost use Rattle.smallvec.specs.SmallVec.{HasRoomFor};
-ghost use Rattle.numbered_lits.specs.Numbers.{Continues, AreNumbers};
+ghost use Rattle.numbered_lits.specs.Numbers.{Continues, AreNumbers, known_front};
 
 #[cfg(test)]
 mod tests;
@@ -62,12 +62,13 @@ impl Numbers {
         number_all(&mut self.dense, &mut self.lits, lits)
     }
 
-    /// Translates a list whose variables all have numbers, and tells whether they have. It takes no memory for a list of at
-    /// most 16 literals, and then it answers Ok.
+    /// Translates the literals of a list before the first whose variable has no number, and tells whether there is none such.
+    /// It takes no memory for a list of at most 16 literals, and then it answers Ok.
     pub fn find(&mut self, lits: &[Lit]) -> Result<bool, AllocError>
         ensures vars { self.new.vars ≡ self.old.vars }
         ensures known { IfOk result (λ known. known ≡ are_known self.old.vars lits.now) }
         ensures lits { IfOk result (λ known. IsTrue known → self.new.lits ≡ dense_lits self.old.vars lits.now) }
+        ensures front { OnOk result (self.new.lits ≡ dense_lits self.old.vars (known_front self.old.vars lits.now)) }
         ensures numbers { IfOk result (λ known. IsTrue known → AreNumbers self.new.vars self.new.lits) }
         ensures short { length lits.now ≤ 16 → IsOk result }
     {
@@ -131,6 +132,7 @@ fn find_all(dense: &Dense, out: &mut SmallVec<Lit, 16>, lits: &[Lit]) -> bool
     requires room { HasRoomFor out.old (length lits.now) }
     ensures known { result ≡ are_known dense.now lits.now }
     ensures lits { IsTrue result → out.new.items ≡ dense_lits dense.now lits.now }
+    ensures front { out.new.items ≡ dense_lits dense.now (known_front dense.now lits.now) }
     ensures numbers { IsTrue result → AreNumbers dense.now out.new.items }
 {
     for l in lits {
