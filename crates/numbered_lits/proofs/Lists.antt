@@ -1,11 +1,13 @@
 -- Lists that are translated literal by literal.
-use Rattle.std.proofs.Common.{◌≡◌, ℕ, ◌+◌, ◌<◌, ◌≤◌, true, false, List, [], ◌∷◌, ◌++◌, length, take, drop, get_or, append_assoc, Option, Some, None, refl, sym, ap, ◌∙◌, subst, inl, inr, arith, add-one}
+use Rattle.std.proofs.Common.{◌≡◌, ℕ, ◌+◌, ◌<◌, ◌≤◌, Bool, true, false, not, filter, List, [], ◌∷◌, ◌++◌, length, take, drop, get_or, append_assoc, Option, Some, None, refl, sym, ap, ◌∙◌, subst, inl, inr, arith, add-one}
 use Rattle.std.proofs.Math.Seq.{take-suc}
 use Rattle.std.proofs.lemmas.Bool.{cases_Bool, both_ways, and_parts, and_from}
 use Rattle.std.proofs.lemmas.List.{map-append, get_or_default, take_all, take-append-drop}
 use Rattle.std.proofs.lemmas.List.Elements.{All-map, All-from_get_or}
 use Rattle.lits.specs.Literal.{var}
-use Rattle.lits.specs.Clause.{has}
+use Rattle.std.proofs.lemmas.List.Filters.{length-filter_both}
+use Rattle.lits.specs.Clause.{has, is_tautology}
+use Rattle.lits.proofs.Sets.{same_from, tautology-same}
 use Rattle.lits.specs.Numbering.{place, is_known, are_known, dense_lit, find_dense_lit, dense_lits, with_var, with_lits, numbered_lits}
 use Rattle.lits.proofs.Members.{has_from}
 use Rattle.lits.proofs.Places.{place-known}
@@ -106,3 +108,13 @@ are-numbers vars ls k = All-map (λ l. var l ≤ length vars) (dense_lit vars) l
 
 pub are-numbers-after : (vars ls : List ℕ) → AreNumbers (with_lits vars ls) (numbered_lits vars ls)
 are-numbers-after vars ls = are-numbers (with_lits vars ls) ls (are_known-with_lits vars ls)
+
+-- ---- Those that have numbers, and the others
+
+pub others-short : (vars ls others : List ℕ) → others ≡ filter (λ l. not (is_known vars l)) ls → length ls ≤ 16 → length others ≤ 16
+others-short vars ls others e h = let both = length-filter_both (is_known vars) (λ l. not (is_known vars l)) (λ x. refl) ls in
+    let f : length others ≡ length (filter (λ l. not (is_known vars l)) ls) = ap length e in omega arith
+
+pub others-clash : (vars ls others set : List ℕ) (answer : Bool) → others ≡ filter (λ l. not (is_known vars l)) ls → ((l : ℕ) → has set l ≡ has others l) → answer ≡ is_tautology set
+    → answer ≡ is_tautology (filter (λ l. not (is_known vars l)) ls)
+others-clash vars ls others set answer e members is = is ∙ tautology-same set others (same_from set others members) ∙ ap is_tautology e
