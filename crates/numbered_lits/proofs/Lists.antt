@@ -1,16 +1,18 @@
 -- Lists that are translated literal by literal.
-use Rattle.std.proofs.Common.{◌≡◌, ℕ, ◌+◌, ◌<◌, ◌≤◌, true, false, List, [], ◌∷◌, ◌++◌, length, take, get_or, refl, sym, ap, ◌∙◌, subst, inl, inr, arith, add-one}
+use Rattle.std.proofs.Common.{◌≡◌, ℕ, ◌+◌, ◌<◌, ◌≤◌, Bool, true, false, not, filter, List, [], ◌∷◌, ◌++◌, length, take, drop, get_or, append_assoc, Option, Some, None, refl, sym, ap, ◌∙◌, subst, inl, inr, arith, add-one}
 use Rattle.std.proofs.Math.Seq.{take-suc}
 use Rattle.std.proofs.lemmas.Bool.{cases_Bool, both_ways, and_parts, and_from}
-use Rattle.std.proofs.lemmas.List.{map-append, get_or_default}
+use Rattle.std.proofs.lemmas.List.{map-append, get_or_default, take_all, take-append-drop}
 use Rattle.std.proofs.lemmas.List.Elements.{All-map, All-from_get_or}
 use Rattle.lits.specs.Literal.{var}
-use Rattle.lits.specs.Clause.{has}
-use Rattle.lits.specs.Numbering.{place, is_known, are_known, dense_lit, dense_lits, with_var, with_lits, numbered_lits}
+use Rattle.std.proofs.lemmas.List.Filters.{length-filter_both}
+use Rattle.lits.specs.Clause.{has, is_tautology}
+use Rattle.lits.proofs.Sets.{same_from, tautology-same}
+use Rattle.lits.specs.Numbering.{place, is_known, are_known, dense_lit, find_dense_lit, dense_lits, with_var, with_lits, numbered_lits}
 use Rattle.lits.proofs.Members.{has_from}
 use Rattle.lits.proofs.Places.{place-known}
 use Rattle.lits.proofs.Translated.{var-dense_lit, known_at, with_lits-extends, with_lits-push, numbered_lits-push, are_known-with_lits}
-use Rattle.numbered_lits.specs.Numbers.{Continues, AreNumbers}
+use Rattle.numbered_lits.specs.Numbers.{Continues, AreNumbers, known_front}
 
 pub taken : (ls : List ℕ) (i : ℕ) → i < length ls → take (i + 1) ls ≡ take i ls ++ get_or ls i 0 ∷ []
 taken ls i lt = ap (λ k. take k ls) (add-one i) ∙ take-suc ls i 0 lt
@@ -48,6 +50,52 @@ unknown-item vars ls i lt n = elim (cases_Bool (are_known vars ls)) [
   | inr q ↦ q
 ]
 
+-- ---- The literals before the first that has no number
+
+pub front-all : (vars ls : List ℕ) → are_known vars ls ≡ true → known_front vars ls ≡ ls
+unfolding known_front
+front-all vars [] k = refl
+front-all vars (x ∷ xs) k = let parts = and_parts (is_known vars x) (are_known vars xs) k in rw parts.0 (ap (λ z. x ∷ z) (front-all vars xs parts.1))
+
+front-before : (vars ls : List ℕ) (l : ℕ) (after : List ℕ) → are_known vars ls ≡ true → is_known vars l ≡ false → known_front vars (ls ++ l ∷ after) ≡ ls
+unfolding known_front
+front-before vars [] l after k n = rw n refl
+front-before vars (x ∷ xs) l after k n = let parts = and_parts (is_known vars x) (are_known vars xs) k in rw parts.0 (ap (λ z. x ∷ z) (front-before vars xs l after parts.1 n))
+
+split-at : (ls : List ℕ) (i : ℕ) → i < length ls → ls ≡ take i ls ++ get_or ls i 0 ∷ drop (i + 1) ls
+split-at ls i lt = sym (take-append-drop (i + 1) ls) ∙ ap (λ z. z ++ drop (i + 1) ls) (taken ls i lt) ∙ append_assoc (take i ls) (get_or ls i 0 ∷ []) (drop (i + 1) ls)
+
+pub front-at : (vars ls : List ℕ) (i : ℕ) → i < length ls → are_known vars (take i ls) ≡ true → is_known vars (get_or ls i 0) ≡ false → known_front vars ls ≡ take i ls
+front-at vars ls i lt k n = ap (known_front vars) (split-at ls i lt) ∙ front-before vars (take i ls) (get_or ls i 0) (drop (i + 1) ls) k n
+
+pub front-none : (vars ls items : List ℕ) (i l : ℕ) (found : Option ℕ) → i < length ls → l ≡ get_or ls i 0 → found ≡ find_dense_lit vars l → found ≡ None
+    → are_known vars (take i ls) ≡ true → items ≡ dense_lits vars (take i ls) → items ≡ dense_lits vars (known_front vars ls)
+front-none vars ls items i l found lt e f none k is = elim (cases_Bool (is_known vars l)) [
+  | inl q ↦ let g : found ≡ Some (dense_lit vars l) = rw q at f in let h : Some (dense_lit vars l) ≡ None = sym g ∙ none in cc h
+  | inr q ↦ is ∙ ap (dense_lits vars) (sym (front-at vars ls i lt k (subst (λ z. is_known vars z ≡ false) e q)))
+]
+
+pub front-end : (vars ls items : List ℕ) (i : ℕ) → length ls ≤ i → are_known vars (take i ls) ≡ true → items ≡ dense_lits vars (take i ls) → items ≡ dense_lits vars (known_front vars ls)
+front-end vars ls items i ge k is = let all : take i ls ≡ ls = take_all i ls ge in
+    is ∙ ap (dense_lits vars) (all ∙ sym (front-all vars ls (subst (λ z. are_known vars z ≡ true) all k)))
+
+-- a list with a literal that has no number: the first such stands behind the front
+pub record StandsBehind (vars front ls : List ℕ) : Type 0 where
+  pub literal : ℕ
+  pub after : List ℕ
+  pub whole : ls ≡ front ++ literal ∷ after
+  pub known : are_known vars front ≡ true
+  pub unknown : is_known vars literal ≡ false
+
+pub front-split : (vars ls : List ℕ) → are_known vars ls ≡ false → StandsBehind vars (known_front vars ls) ls
+unfolding known_front
+front-split vars [] n = cc
+front-split vars (x ∷ xs) n = elim (cases_Bool (is_known vars x)) [
+  | inl q ↦ let rest : are_known vars xs ≡ false = rw q at n in let more = front-split vars xs rest in
+      rw q (record { literal = more.literal; after = more.after; whole = ap (λ z. x ∷ z) more.whole; known = and_from _ _ q more.known; unknown = more.unknown })
+  | inr q ↦ rw q (record { literal = x; after = xs; whole = refl; known = refl; unknown = q })
+]
+
 -- ---- Numbers
 
 pub are-numbers : (vars ls : List ℕ) → are_known vars ls ≡ true → AreNumbers vars (dense_lits vars ls)
@@ -60,3 +108,13 @@ are-numbers vars ls k = All-map (λ l. var l ≤ length vars) (dense_lit vars) l
 
 pub are-numbers-after : (vars ls : List ℕ) → AreNumbers (with_lits vars ls) (numbered_lits vars ls)
 are-numbers-after vars ls = are-numbers (with_lits vars ls) ls (are_known-with_lits vars ls)
+
+-- ---- Those that have numbers, and the others
+
+pub others-short : (vars ls others : List ℕ) → others ≡ filter (λ l. not (is_known vars l)) ls → length ls ≤ 16 → length others ≤ 16
+others-short vars ls others e h = let both = length-filter_both (is_known vars) (λ l. not (is_known vars l)) (λ x. refl) ls in
+    let f : length others ≡ length (filter (λ l. not (is_known vars l)) ls) = ap length e in omega arith
+
+pub others-clash : (vars ls others set : List ℕ) (answer : Bool) → others ≡ filter (λ l. not (is_known vars l)) ls → ((l : ℕ) → has set l ≡ has others l) → answer ≡ is_tautology set
+    → answer ≡ is_tautology (filter (λ l. not (is_known vars l)) ls)
+others-clash vars ls others set answer e members is = is ∙ tautology-same set others (same_from set others members) ∙ ap is_tautology e

@@ -5,16 +5,17 @@
 //! taken by `number`; one that can't is looked up by `find`, which takes no memory for a list of at most 16 literals.
 #![tactic(auto)]
 
-ghost use Rattle.std.specs.Prelude.{◌≡◌, ℕ, ◌+◌, ◌≤◌, [], length, IsTrue, IsOk, OnOk, IfOk};
+ghost use Rattle.std.specs.Prelude.{◌≡◌, ℕ, ◌+◌, ◌≤◌, [], length, filter, not, IsTrue, IsOk, OnOk, IfOk};
 ghost use Rattle.lits.specs.Literal.{max_var};
-ghost use Rattle.lits.specs.Numbering.{IsNumbering, are_known, dense_lits, with_lits, numbered_lits};
+ghost use Rattle.lits.specs.Clause.{is_tautology};
+ghost use Rattle.lits.specs.Numbering.{IsNumbering, is_known, are_known, dense_lits, with_lits, numbered_lits};
 ghost use Rattle.smallvec.specs.SmallVec.{HasRoomFor};
-ghost use Rattle.numbered_lits.specs.Numbers.{Continues, AreNumbers};
+ghost use Rattle.numbered_lits.specs.Numbers.{Continues, AreNumbers, known_front};
 
 #[cfg(test)]
 mod tests;
 
-use lits::{Dense, Lit};
+use lits::{Dense, Lit, LitSet};
 use smallvec::SmallVec;
 use std::alloc::{AllocError, Global};
 use std::marker::Model;
@@ -62,12 +63,13 @@ impl Numbers {
         number_all(&mut self.dense, &mut self.lits, lits)
     }
 
-    /// Translates a list whose variables all have numbers, and tells whether they have. It takes no memory for a list of at
-    /// most 16 literals, and then it answers Ok.
+    /// Translates the literals of a list before the first whose variable has no number, and tells whether there is none such.
+    /// It takes no memory for a list of at most 16 literals, and then it answers Ok.
     pub fn find(&mut self, lits: &[Lit]) -> Result<bool, AllocError>
         ensures vars { self.new.vars ≡ self.old.vars }
         ensures known { IfOk result (λ known. known ≡ are_known self.old.vars lits.now) }
         ensures lits { IfOk result (λ known. IsTrue known → self.new.lits ≡ dense_lits self.old.vars lits.now) }
+        ensures front { OnOk result (self.new.lits ≡ dense_lits self.old.vars (known_front self.old.vars lits.now)) }
         ensures numbers { IfOk result (λ known. IsTrue known → AreNumbers self.new.vars self.new.lits) }
         ensures short { length lits.now ≤ 16 → IsOk result }
     {
@@ -75,6 +77,19 @@ impl Numbers {
         let _ = self.lits.capacity();
         self.lits.reserve(lits.len())?;
         Ok(find_all(&self.dense, &mut self.lits, lits))
+    }
+
+    /// Translates those literals of a list whose variables have numbers, and tells whether two of the others are opposite. It
+    /// takes no memory for a list of at most 16 literals, and then it answers Ok.
+    pub fn find_known(&mut self, lits: &[Lit]) -> Result<bool, AllocError>
+        ensures vars { self.new.vars ≡ self.old.vars }
+        ensures lits { OnOk result (self.new.lits ≡ dense_lits self.old.vars (filter (is_known self.old.vars) lits.now)) }
+        ensures numbers { OnOk result (AreNumbers self.new.vars self.new.lits) }
+        ensures clash { IfOk result (λ clash. clash ≡ is_tautology (filter (λ l. not (is_known self.old.vars l)) lits.now)) }
+        ensures short { length lits.now ≤ 16 → IsOk result }
+    {
+        self.lits.clear();
+        split_known(&self.dense, &mut self.lits, lits)
     }
 
     /// The list that was translated last.
@@ -131,6 +146,7 @@ fn find_all(dense: &Dense, out: &mut SmallVec<Lit, 16>, lits: &[Lit]) -> bool
     requires room { HasRoomFor out.old (length lits.now) }
     ensures known { result ≡ are_known dense.now lits.now }
     ensures lits { IsTrue result → out.new.items ≡ dense_lits dense.now lits.now }
+    ensures front { out.new.items ≡ dense_lits dense.now (known_front dense.now lits.now) }
     ensures numbers { IsTrue result → AreNumbers dense.now out.new.items }
 {
     for l in lits {
@@ -140,4 +156,48 @@ fn find_all(dense: &Dense, out: &mut SmallVec<Lit, 16>, lits: &[Lit]) -> bool
         }
     }
     true
+}
+
+/// Adds the translation of each literal whose variable has a number to an empty list, and tells whether two of the others are
+/// opposite.
+fn split_known(dense: &Dense, out: &mut SmallVec<Lit, 16>, lits: &[Lit]) -> Result<bool, AllocError>
+    requires { out.old.items ≡ [] }
+    ensures lits { OnOk result (out.new.items ≡ dense_lits dense.now (filter (is_known dense.now) lits.now)) }
+    ensures numbers { OnOk result (AreNumbers dense.now out.new.items) }
+    ensures clash { IfOk result (λ clash. clash ≡ is_tautology (filter (λ l. not (is_known dense.now l)) lits.now)) }
+    ensures short { length lits.now ≤ 16 → IsOk result }
+{
+    let count = lits.len();
+    let alloc = *out.allocator();
+    let mut others: SmallVec<Lit, 16> = SmallVec::new(alloc);
+    let _ = (out.capacity(), others.capacity());
+    out.reserve(count)?;
+    others.reserve(count)?;
+    find_each(dense, out, &mut others, lits);
+    let others = LitSet::of(alloc, others.as_slice())?;
+    Ok(others.tautology())
+}
+
+/// Adds the translation of each literal whose variable has a number to one empty list, and the others to another. Both have room
+/// for all.
+fn find_each(
+    dense: &Dense,
+    out: &mut SmallVec<Lit, 16>,
+    others: &mut SmallVec<Lit, 16>,
+    lits: &[Lit],
+)
+    requires empty { out.old.items ≡ [] }
+    requires no_others { others.old.items ≡ [] }
+    requires room { HasRoomFor out.old (length lits.now) }
+    requires others_room { HasRoomFor others.old (length lits.now) }
+    ensures lits { out.new.items ≡ dense_lits dense.now (filter (is_known dense.now) lits.now) }
+    ensures numbers { AreNumbers dense.now out.new.items }
+    ensures others { others.new.items ≡ filter (λ l. not (is_known dense.now l)) lits.now }
+{
+    for l in lits {
+        match dense.find_lit(*l) {
+            Some(number) => out.push_reserved(number),
+            None => others.push_reserved(*l),
+        }
+    }
 }

@@ -133,7 +133,7 @@ module _ (vars : List ℕ) where
         | inr q ↦ rw (e, q) next
       ]
 
-  missing-dense : (ls ms : List ℕ) → are_known vars ms ≡ true → first_missing (dense_lits vars ls) (dense_lits vars ms) ≡ option_map (dense_lit vars) (first_missing ls ms)
+  pub missing-dense : (ls ms : List ℕ) → are_known vars ms ≡ true → first_missing (dense_lits vars ls) (dense_lits vars ms) ≡ option_map (dense_lit vars) (first_missing ls ms)
   missing-dense ls ms k = find-mapped (dense_lit vars) (λ l. not (has (dense_lits vars ms) l)) (λ l. not (has ms l)) ls (λ l n. ap not (has-dense vars ms l k))
 
   unmet-dense : (m c : List ℕ) → are_known vars m ≡ true → not (list_any (has (dense_lits vars m)) (dense_lits vars c)) ≡ not (list_any (has m) c)

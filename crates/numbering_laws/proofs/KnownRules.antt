@@ -1,12 +1,12 @@
 -- The literals of the rules that known steps break are known, so the rules of the translated steps tell them.
-use Rattle.std.proofs.Common.{◌≡◌, ℕ, Bool, true, not, nat_lt, List, [], ◌∷◌, ◌++◌, map, Option, Some, None, refl, ap, ◌∙◌, subst, inl, inr}
+use Rattle.std.proofs.Common.{◌≡◌, ℕ, Bool, true, not, le-leb, nat_lt, List, [], ◌∷◌, ◌++◌, map, Option, Some, None, refl, ap, ◌∙◌, subst, inl, inr}
 use Rattle.std.specs.Prelude.{false}
 use Rattle.std.specs.List.{list_any, list_all, position_from}
 use Rattle.std.proofs.lemmas.Bool.{cases_Bool, and_parts, and_from}
 use Rattle.lits.specs.Literal.{neg}
 use Rattle.lits.specs.Clause.{has}
-use Rattle.lits.specs.Numbering.{is_known, are_known}
-use Rattle.lits.proofs.Translated.{file-dense}
+use Rattle.lits.specs.Numbering.{is_known, are_known, dense_lit}
+use Rattle.lits.proofs.Translated.{file-dense, var-dense_lit-count}
 use Rattle.session_rules.specs.declared.Event.{Event}
 use Rattle.session_rules.specs.declared.Event.TheVariants as events
 use Rattle.session_rules.specs.declared.Step.{Step}
@@ -17,7 +17,7 @@ use Rattle.session_rules.specs.declared.Rule.{Rule}
 use Rattle.session_rules.specs.declared.Rule.TheVariants as rules
 use Rattle.session_rules.specs.History.{broken_at, broken_unless, order_faults, first_clash, first_missing, assumed, inputs, model_faults, core_faults}
 use Rattle.session_rules.specs.Own.{active_copies, weakened_copies, events_of, event_faults, own_faults, id_events_of, own_id_faults}
-use Rattle.numbering_laws.specs.Dense.{dense_step, dense_steps, dense_id_step, dense_id_steps, is_known_step, are_known_steps, is_known_id_step, are_known_id_steps, dense_rule, file_rule}
+use Rattle.numbering_laws.specs.Dense.{dense_step, dense_steps, dense_id_step, dense_id_steps, is_known_step, are_known_steps, is_known_id_step, are_known_id_steps, shown_lit, dense_rule, file_rule}
 use Rattle.numbering_laws.proofs.Mapped.{found-has}
 use Rattle.numbering_laws.proofs.Events.{is_known_event, dense_rules, assumed-known}
 use Rattle.numbering_laws.proofs.Faults.{events-known, own-dense}
@@ -43,14 +43,17 @@ module _ (vars : List ℕ) where
 
   -- ---- Rules back
 
-  rule-back : (r : Rule) → is_known_rule vars r ≡ true → file_rule vars (dense_rule vars r) ≡ r
-  rule-back (rules.ModelClash l) k = ap rules.ModelClash (file-dense vars l k)
-  rule-back (rules.ModelAssumption l) k = ap rules.ModelAssumption (file-dense vars l k)
-  rule-back (rules.CoreStranger l) k = ap rules.CoreStranger (file-dense vars l k)
-  rule-back (rules.ModelPart l) k = ap rules.ModelPart (file-dense vars l k)
-  rule-back (rules.CorePart l) k = ap rules.CorePart (file-dense vars l k)
-  rule-back (rules.CoreClaim l) k = ap rules.CoreClaim (file-dense vars l k)
-  rule-back (rules.FailedPart l) k = ap rules.FailedPart (file-dense vars l k)
+  shown-dense : (l : ℕ) → is_known vars l ≡ true → shown_lit vars (dense_lit vars l) ≡ l
+  shown-dense l k = rw (le-leb _ _ (var-dense_lit-count vars l k)) (file-dense vars l k)
+
+  pub rule-back : (r : Rule) → is_known_rule vars r ≡ true → file_rule vars (dense_rule vars r) ≡ r
+  rule-back (rules.ModelClash l) k = ap rules.ModelClash (shown-dense l k)
+  rule-back (rules.ModelAssumption l) k = ap rules.ModelAssumption (shown-dense l k)
+  rule-back (rules.CoreStranger l) k = ap rules.CoreStranger (shown-dense l k)
+  rule-back (rules.ModelPart l) k = ap rules.ModelPart (shown-dense l k)
+  rule-back (rules.CorePart l) k = ap rules.CorePart (shown-dense l k)
+  rule-back (rules.CoreClaim l) k = ap rules.CoreClaim (shown-dense l k)
+  rule-back (rules.FailedPart l) k = ap rules.FailedPart (shown-dense l k)
   rule-back r k = refl
 
   rules-back : (rs : List Rule) → KnownRules rs → map (file_rule vars) (dense_rules vars rs) ≡ rs
@@ -84,7 +87,7 @@ module _ (vars : List ℕ) where
     | inr q ↦ let f : first_clash (x ∷ before) xs ≡ Some l = rw q at e in clash-known (x ∷ before) xs l parts.1 f
   ]
 
-  missing-known : (ls ms : List ℕ) (l : ℕ) → are_known vars ls ≡ true → first_missing ls ms ≡ Some l → is_known vars l ≡ true
+  pub missing-known : (ls ms : List ℕ) (l : ℕ) → are_known vars ls ≡ true → first_missing ls ms ≡ Some l → is_known vars l ≡ true
   missing-known ls ms l k e = found-has (is_known vars) (λ x. not (has ms x)) ls l k e
 
   order-known : (es : List Event) (e : Event) → KnownRules (order_faults es e)

@@ -1,6 +1,7 @@
 -- Steps and events whose literals are translated through a numbering of the file's variables, and rules whose literal is.
-use Rattle.std.specs.Prelude.{◌≡◌, ℕ, Bool, List, [], map, not, filter, Option, Some, IsTrue}
+use Rattle.std.specs.Prelude.{◌≡◌, ℕ, Bool, nat_le, if◌then◌else◌, List, [], length, map, not, filter, Option, Some, IsTrue}
 use Rattle.std.specs.List.{list_all}
+use Rattle.lits.specs.Literal.{var}
 use Rattle.lits.specs.Numbering.{is_known, are_known, dense_lit, file_lit, dense_lits}
 use Rattle.session_rules.specs.declared.Event.{Event}
 use Rattle.session_rules.specs.declared.Event.TheVariants as events
@@ -104,12 +105,16 @@ with_literal_of f (rules.CoreClaim l) = rules.CoreClaim (f l)
 with_literal_of f (rules.FailedPart l) = rules.FailedPart (f l)
 with_literal_of f r = r
 
+-- a literal over numbers, read back. One that is beyond the numbers stays.
+abbrev pub shown_lit : List ℕ → ℕ → ℕ
+shown_lit vars l = if nat_le (var l) (length vars) then file_lit vars l else l
+
 -- a rule whose literal is translated, and back. Positions stay.
 abbrev pub dense_rule : List ℕ → Rule → Rule
 dense_rule vars r = with_literal_of (dense_lit vars) r
 
 abbrev pub file_rule : List ℕ → Rule → Rule
-file_rule vars r = with_literal_of (file_lit vars) r
+file_rule vars r = with_literal_of (shown_lit vars) r
 
 -- ---- Literals without a number
 

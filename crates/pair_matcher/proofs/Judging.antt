@@ -35,10 +35,10 @@ use Rattle.pair_matcher.proofs.Rules.{first-skip, first-here, first-broken, firs
 
 -- ---- Events
 
-events-some : (ps : List LStep) (p : LStep) (e : Event) → id_event_of p ≡ Some e → id_events_of (ps ++ p ∷ []) ≡ id_events_of ps ++ e ∷ []
+pub events-some : (ps : List LStep) (p : LStep) (e : Event) → id_event_of p ≡ Some e → id_events_of (ps ++ p ∷ []) ≡ id_events_of ps ++ e ∷ []
 events-some ps p e is = rw (filter_map-append, is) refl
 
-events-none : (ps : List LStep) (p : LStep) → id_event_of p ≡ None → id_events_of (ps ++ p ∷ []) ≡ id_events_of ps
+pub events-none : (ps : List LStep) (p : LStep) → id_event_of p ≡ None → id_events_of (ps ++ p ∷ []) ≡ id_events_of ps
 events-none ps p is = rw (filter_map-append, is, append-nil) refl
 
 -- what the events say of the order is what the steps say
@@ -107,16 +107,16 @@ module _ (m : Clauses) (s t : State) (answer : Option Rule) where
 
 -- ---- Hints
 
-closed_is : (o : Option ℕ) → end_of o ≡ Closed → o ≡ None
+pub closed_is : (o : Option ℕ) → end_of o ≡ Closed → o ≡ None
 closed_is None e = refl
 closed_is (Some p) e = cc e
 
-fails_is : (o : Option ℕ) (p : ℕ) → end_of o ≡ Fails p → o ≡ Some p
+pub fails_is : (o : Option ℕ) (p : ℕ) → end_of o ≡ Fails p → o ≡ Some p
 fails_is None p e = cc e
 fails_is (Some q) p e = let f : q ≡ p = cc e in ap Some f
 
 module _ (m : Store) (ps : List LStep) (h : HoldsIds (clauses_of_store m) ps) (ls hs : List ℕ) (end : HintEnd) (run : end ≡ end_of (hints_fail (active_at m) ls hs)) where
-  run_is : end_of (hints_fail (active_clause ps) ls hs) ≡ end
+  pub run_is : end_of (hints_fail (active_clause ps) ls hs) ≡ end
   run_is = sym (run ∙ ap (λ f. end_of (hints_fail f ls hs)) (fun_ext (active_in-store m)) ∙ ap end_of (hints_over_kept (clauses_of_store m) ps h ls hs))
 
   hints_closed : end ≡ Closed → first_rule (hint_faults ps ls hs) ≡ None

@@ -40,10 +40,10 @@ use Rattle.std.specs.Ordering.{nat_cmp}
 
 -- ---- Events
 
-events-some : (ps : List Step) (e : Event) → events_of (ps ++ steps.Event e ∷ []) ≡ events_of ps ++ e ∷ []
+pub events-some : (ps : List Step) (e : Event) → events_of (ps ++ steps.Event e ∷ []) ≡ events_of ps ++ e ∷ []
 events-some ps e = rw filter_map-append refl
 
-events-none : (ps : List Step) (p : Step) → event_of p ≡ None → events_of (ps ++ p ∷ []) ≡ events_of ps
+pub events-none : (ps : List Step) (p : Step) → event_of p ≡ None → events_of (ps ++ p ∷ []) ≡ events_of ps
 events-none ps p is = rw (filter_map-append, is, append-nil) refl
 
 -- what the events say of the order is what the steps say

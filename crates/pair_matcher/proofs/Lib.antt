@@ -1,6 +1,8 @@
 pub mod Turning
 pub mod Rules
 pub mod Judging
+pub mod Translating
+pub mod TranslatingIds
 pub mod Insides
 pub mod Engines
 pub mod JudgingSets

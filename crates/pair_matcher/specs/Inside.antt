@@ -1,6 +1,7 @@
 -- What holds inside the sides.
-use Rattle.std.specs.Prelude.{◌≡◌, ℕ, ◌≤◌, List, All, is_some}
+use Rattle.std.specs.Prelude.{◌≡◌, ℕ, ◌≤◌, List, All, is_some, IsTrue}
 use Rattle.lits.specs.Literal.{var}
+use Rattle.lits.specs.Numbering.{are_known}
 use Rattle.clause_store.specs.Clauses.{Store}
 use Rattle.propagation.specs.Clauses.{Clause}
 use Rattle.propagation.specs.Engine.{EngineView, level_after}
@@ -31,6 +32,16 @@ clauses_of_engine e = kept_by kept_of_clause e.clauses
 pub record IsBetweenLines (e : EngineView) (s : State) : Type 0 where
   pub events : s.reserved ≤ e.vars
   pub level : level_after e.trail ≡ 0
+
+-- and each variable of the last query has a number
+pub record IsReady (e : EngineView) (s : State) (vars asked : List ℕ) : Type 0 where
+  pub between : IsBetweenLines e s
+  pub known : IsTrue (are_known vars asked)
+
+-- and so with ids
+pub record IsReadyForIds (m : Store) (s : State) (room : ℕ) (vars asked : List ℕ) : Type 0 where
+  pub between : HasHintRoom m s room
+  pub known : IsTrue (are_known vars asked)
 
 -- what the parts of a side say of its steps
 abbrev pub state_of : idrup.Parts → IdrupState

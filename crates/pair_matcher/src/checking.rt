@@ -1,12 +1,12 @@
 // The check of a pair, line by line. Each line of the proof is read, judged by itself, and held against its partners where it is
 // an event; so the first fault that is met is the first of all, and the check ends with it.
 
-ghost use Rattle.std.specs.Prelude.{codes, ◌≡◌, ℕ, ◌+◌, ◌<◌, ◌≤◌, ◌^◌, true, List, Option, Some, None, Err, All, length, max, OnOk, OnErr, IfOk, IfNone, IfSome, IsErrOf};
-ghost use Rattle.lits.specs.Literal.{var};
+ghost use Rattle.std.specs.Prelude.{codes, ◌≡◌, ℕ, ◌+◌, ◌<◌, ◌≤◌, ◌^◌, true, List, Option, Some, None, Err, length, max, OnOk, OnErr, IfOk, IfNone, IfSome, IsErrOf};
 ghost use Rattle.outside.specs.Faults.{Rose};
 ghost use Rattle.session_rules.specs.declared.Verdict.TheVariants as verdicts;
 ghost use Rattle.session_rules.specs.History.{event_literals};
 ghost use Rattle.session_rules.specs.Pair.{verdict, verdict_by};
+ghost use Rattle.icnf_lines.specs.Marks.{AreKnown};
 ghost use Rattle.slice_tokens.specs.Place.{at_start, ahead, WhereTold};
 ghost use Rattle.slice_tokens.specs.Calls.{Moves};
 ghost use Rattle.pair_matcher.specs.Taken.{TakenBy};
@@ -14,7 +14,6 @@ ghost use Rattle.pair_matcher.specs.Checks.{BothTold, BothTell, HasBrokenHeader,
 
 use crate::idrup::IdrupSide;
 use crate::lidrup::LidrupSide;
-use crate::literals::greatest_variable;
 use crate::proof_side::ProofSide;
 use icnf_lines::{HeaderFault, Marks, Match, MatchFault, match_line, read_header};
 use line_reading::Spare;
@@ -102,13 +101,11 @@ fn into_literals(event: Event) -> Option<Lits>
     }
 }
 
-// Makes room for the marks of an event and of the last query.
-fn reserve_marks<P: ProofSide>(marks: &mut Marks, side: &P, event: &Event) -> Result<(), AllocError>
-    ensures event { OnOk result (All (λ l. var l ≤ marks.new) (event_literals event.now)) }
-    ensures last { OnOk result (All (λ l. var l ≤ marks.new) (P.assumed side.now)) }
+// Makes room for the marks of all variables that have a number.
+fn reserve_marks<P: ProofSide>(marks: &mut Marks, side: &P) -> Result<(), AllocError>
+    ensures { OnOk result (length (P.vars side.now) ≤ marks.new) }
 {
-    let variable = greatest_variable(event.lits()).max(side.greatest());
-    marks.reserve(variable)
+    marks.reserve(side.dense().count())
 }
 
 // Holds the interaction's next lines, as far as they are partners of an event of the proof, against it.
@@ -118,6 +115,7 @@ fn take_event<A: Source, P: ProofSide>(
     event: &Event,
 ) -> Result<Option<Verdict>, CheckFault>
     requires queries { c.old.at.queries < 2 ^ 63 }
+    requires known { AreKnown (P.vars c.old.side) (event_literals event.now) }
     ensures side { c.new.side ≡ c.old.side }
     ensures place { c.new.at.proof ≡ c.old.at.proof }
     ensures queries { c.new.at.queries ≤ c.old.at.queries + 1 }
@@ -128,7 +126,7 @@ fn take_event<A: Source, P: ProofSide>(
     ensures read { IsErrOf result CheckFault.ReadInteraction → Rose (A.faults interaction.old) (A.faults interaction.new) }
     ensures proof { IsErrOf result CheckFault.ReadProof → ⊥ }
 {
-    if reserve_marks(&mut c.marks, &c.side, event).is_err() {
+    if reserve_marks(&mut c.marks, &c.side).is_err() {
         return Err(CheckFault::Memory);
     }
     match match_line(
@@ -137,6 +135,7 @@ fn take_event<A: Source, P: ProofSide>(
         event,
         c.side.assumptions(),
         &mut c.marks,
+        c.side.dense(),
     ) {
         Ok(Match::Agrees) => {
             c.at.queries += query_count(event);

@@ -1,10 +1,13 @@
-// The side of a proof without ids. It gives the clauses ids from 1 on, keeps them in an engine, and finds a copy of a clause by
-// its set. Lemmas and cores are tested by propagation over the active clauses. What these force without an assumption stays on
+// The side of a proof without ids. It numbers the file's variables in the order in which they come, and all that it keeps is over
+// these numbers; a line that can't bring a new clause gives no number. It gives the clauses ids from 1 on, keeps them in an engine,
+// and finds a copy of a clause by its set. Lemmas and cores are tested by propagation over the active clauses. What these force without an assumption stays on
 // the trail from one line to the next. Where a clause is deleted or weakened that is a literal's reason, a clause of this literal
 // alone takes its place, and the trail is given up only where there is none or the clause that goes is the first one.
 
-ghost use Rattle.std.specs.Prelude.{ℕ, Some, ◌≡◌, ◌+◌, ◌<◌, ◌≤◌, ◌^◌, List, [], ◌∷◌, ◌++◌, true, false, length, IsTrue, IfOk, IfNone, IsOk, OnOk, OnErr, is_none, All};
-ghost use Rattle.lits.specs.Literal.{max_var, var};
+ghost use Rattle.std.specs.Prelude.{ℕ, Some, ◌≡◌, ◌+◌, ◌<◌, ◌≤◌, ◌^◌, List, [], ◌∷◌, ◌++◌, true, false, length, IsTrue, IfOk, IfNone, IsOk, OnOk, OnErr, is_none};
+ghost use Rattle.lits.specs.Numbering.{are_known, dense_lits};
+ghost use Rattle.numbered_lits.specs.Numbers.{Continues, AreNumbers, known_front};
+ghost use Rattle.numbering_laws.specs.Dense.{is_known_step};
 ghost use Rattle.session_rules.specs.declared.Event.TheVariants as events;
 ghost use Rattle.session_rules.specs.declared.Step.{Step};
 ghost use Rattle.session_rules.specs.declared.Step.TheVariants as steps;
@@ -12,17 +15,17 @@ ghost use Rattle.session_rules.specs.History.{phase, broken_unless};
 ghost use Rattle.session_rules.specs.Own.{events_of, own_faults};
 ghost use Rattle.session_rules.specs.Pair.{is_idle};
 ghost use Rattle.session_events.specs.State.{AreReserved};
-ghost use Rattle.side_laws.specs.ClauseStates.{ChangesAt};
-ghost use Rattle.side_laws.specs.Sets.{named_id, kept_at};
-ghost use Rattle.pair_matcher.specs.Sides.{StandsFor, AreAfter, Judged, first_rule, is_frugal};
+ghost use Rattle.pair_matcher.specs.Sides.{StandsFor, AreAfter, Judged, JudgedThrough, ChangesNamedAlone, first_rule, asked_after, is_frugal};
 ghost use Rattle.pair_matcher.specs.Inside.{IsBetweenLines, state_of};
 
-use crate::literals::{greatest_variable, negate};
-use lits::{Lit, LitSet};
+use crate::literals::{end_rule, negate, refill, shown_answer};
+use crate::strangers::first_stranger;
+use lits::{Dense, Lit, LitSet};
+use numbered_lits::Numbers;
 use propagation::Engine;
 use rup_check::closes;
 use session_events::{Events, Kind};
-use session_rules::{Event, Id, Phase, Rule, StatusWord, Step};
+use session_rules::{Event, Id, Rule, StatusWord, Step};
 use std::alloc::{AllocError, Global};
 use std::marker::Model;
 
@@ -36,17 +39,33 @@ struct Parts {
     alloc: Global,
 }
 
-/// Reserves the variables of literals.
-fn reserve(p: &mut Parts, lits: &[Lit]) -> Result<(), AllocError>
+/// Translates the literals of a line that may name new variables, and reserves all numbers.
+fn number(p: &mut Parts, numbers: &mut Numbers, lits: &[Lit]) -> Result<(), AllocError>
     requires { IsBetweenLines p.old.engine p.old.events }
-    ensures reserved { OnOk result (AreReserved p.new.events lits.now) }
+    ensures lits { OnOk result (numbers.new.lits ≡ dense_lits numbers.new.vars lits.now) }
+    ensures known { OnOk result (IsTrue (are_known numbers.new.vars lits.now)) }
+    ensures continues { Continues numbers.old.vars numbers.new.vars }
+    ensures reserved { OnOk result (AreReserved p.new.events numbers.new.lits) }
     ensures next { p.new.next ≡ p.old.next }
     ensures stands { (ps : List Step) → AreAfter (state_of p.old) ps → AreAfter (state_of p.new) ps }
     ensures inside { IsBetweenLines p.new.engine p.new.events }
 {
-    let variable = greatest_variable(lits);
-    p.engine.reserve(variable)?;
-    p.events.reserve(variable)?;
+    numbers.number(lits)?;
+    reserve(p, numbers)
+}
+
+/// Reserves all numbers of variables.
+fn reserve(p: &mut Parts, numbers: &Numbers) -> Result<(), AllocError>
+    requires inside { IsBetweenLines p.old.engine p.old.events }
+    requires numbers { AreNumbers numbers.now.vars numbers.now.lits }
+    ensures reserved { OnOk result (AreReserved p.new.events numbers.now.lits) }
+    ensures next { p.new.next ≡ p.old.next }
+    ensures stands { (ps : List Step) → AreAfter (state_of p.old) ps → AreAfter (state_of p.new) ps }
+    ensures inside { IsBetweenLines p.new.engine p.new.events }
+{
+    let count = numbers.count();
+    p.engine.reserve(count)?;
+    p.events.reserve(count)?;
     Ok(())
 }
 
@@ -214,66 +233,296 @@ fn judge_restoring(p: &mut Parts, lits: &[Lit]) -> Result<Option<Rule>, AllocErr
     }
 }
 
-/// Judges an event.
-fn judge_event(p: &mut Parts, event: &Event) -> Result<Option<Rule>, AllocError>
+/// Judges an input of the file.
+fn take_input(
+    p: &mut Parts,
+    numbers: &mut Numbers,
+    lits: &[Lit],
+) -> Result<Option<Rule>, AllocError>
     requires inside { IsBetweenLines p.old.engine p.old.events }
     requires next { p.old.next < 2 ^ 63 }
-    ensures judged { IfOk result (λ r. Judged (state_of p.old) (state_of p.new) (steps.Event event.now) r) }
+    ensures judged { IfOk result (λ r. JudgedThrough numbers.old.vars numbers.new.vars (state_of p.old) (state_of p.new) (steps.Event (events.Input lits.now)) r) }
+    ensures continues { Continues numbers.old.vars numbers.new.vars }
+    ensures inside { IsBetweenLines p.new.engine p.new.events }
+    ensures next { p.new.next ≤ p.old.next + 1 }
+{
+    number(p, numbers, lits)?;
+    match judge_input(p, numbers.lits()) {
+        Ok(answer) => Ok(shown_answer(answer, numbers.dense())),
+        Err(fault) => Err(fault),
+    }
+}
+
+/// Judges a query of the file.
+fn take_query(
+    p: &mut Parts,
+    numbers: &mut Numbers,
+    lits: &[Lit],
+) -> Result<Option<Rule>, AllocError>
+    requires inside { IsBetweenLines p.old.engine p.old.events }
+    requires next { p.old.next < 2 ^ 63 }
+    ensures judged { IfOk result (λ r. JudgedThrough numbers.old.vars numbers.new.vars (state_of p.old) (state_of p.new) (steps.Event (events.Query lits.now)) r) }
+    ensures continues { Continues numbers.old.vars numbers.new.vars }
+    ensures inside { IsBetweenLines p.new.engine p.new.events }
+    ensures next { p.new.next ≤ p.old.next + 1 }
+{
+    number(p, numbers, lits)?;
+    match judge_query(p, numbers.lits()) {
+        Ok(answer) => Ok(shown_answer(answer, numbers.dense())),
+        Err(fault) => Err(fault),
+    }
+}
+
+/// Judges a model of the file.
+fn take_model(
+    p: &mut Parts,
+    numbers: &mut Numbers,
+    lits: &[Lit],
+) -> Result<Option<Rule>, AllocError>
+    requires inside { IsBetweenLines p.old.engine p.old.events }
+    requires next { p.old.next < 2 ^ 63 }
+    ensures judged { IfOk result (λ r. JudgedThrough numbers.old.vars numbers.new.vars (state_of p.old) (state_of p.new) (steps.Event (events.Model lits.now)) r) }
+    ensures continues { Continues numbers.old.vars numbers.new.vars }
+    ensures inside { IsBetweenLines p.new.engine p.new.events }
+    ensures next { p.new.next ≤ p.old.next + 1 }
+{
+    number(p, numbers, lits)?;
+    let answer = judge_model(p, numbers.lits());
+    Ok(shown_answer(answer, numbers.dense()))
+}
+
+/// Judges a core of the file that has a literal without a number. The literals before the first such were translated.
+fn judge_strange_core(p: &mut Parts, numbers: &Numbers, u: &[Lit]) -> Option<Rule>
+    requires inside { IsBetweenLines p.old.engine p.old.events }
+    requires strange { are_known numbers.now.vars u.now ≡ false }
+    requires front { numbers.now.lits ≡ dense_lits numbers.now.vars (known_front numbers.now.vars u.now) }
+    ensures judged { JudgedThrough numbers.now.vars numbers.now.vars (state_of p.old) (state_of p.new) (steps.Event (events.Core u.now)) result }
+    ensures inside { IsBetweenLines p.new.engine p.new.events }
+    ensures next { p.new.next ≤ p.old.next + 1 }
+{
+    if let Some(rule) = p.events.order_rule(Kind::Core) {
+        return Some(rule);
+    }
+    Some(first_stranger(&mut p.events, numbers, u))
+}
+
+/// Judges a core of the file. It takes no memory for at most 16 literals.
+fn take_core(p: &mut Parts, numbers: &mut Numbers, u: &[Lit]) -> Result<Option<Rule>, AllocError>
+    requires { IsBetweenLines p.old.engine p.old.events }
+    ensures judged { IfOk result (λ r. JudgedThrough numbers.old.vars numbers.new.vars (state_of p.old) (state_of p.new) (steps.Event (events.Core u.now)) r) }
+    ensures vars { numbers.new.vars ≡ numbers.old.vars }
+    ensures inside { IsBetweenLines p.new.engine p.new.events }
+    ensures next { p.new.next ≤ p.old.next + 1 }
+    ensures short { length u.now ≤ 16 → IsOk result }
+{
+    match numbers.find(u) {
+        Ok(true) => {
+            let answer = judge_core(p, numbers.lits());
+            Ok(shown_answer(answer, numbers.dense()))
+        }
+        Ok(false) => Ok(judge_strange_core(p, numbers, u)),
+        Err(_) => Err(AllocError),
+    }
+}
+
+/// Judges a lemma of the file.
+fn take_lemma(
+    p: &mut Parts,
+    numbers: &mut Numbers,
+    lits: &[Lit],
+) -> Result<Option<Rule>, AllocError>
+    requires inside { IsBetweenLines p.old.engine p.old.events }
+    requires next { p.old.next < 2 ^ 63 }
+    ensures judged { IfOk result (λ r. JudgedThrough numbers.old.vars numbers.new.vars (state_of p.old) (state_of p.new) (steps.Lemma lits.now) r) }
+    ensures continues { Continues numbers.old.vars numbers.new.vars }
+    ensures inside { IsBetweenLines p.new.engine p.new.events }
+    ensures next { p.new.next ≤ p.old.next + 1 }
+{
+    number(p, numbers, lits)?;
+    match judge_lemma(p, numbers.lits()) {
+        Ok(answer) => Ok(shown_answer(answer, numbers.dense())),
+        Err(fault) => Err(fault),
+    }
+}
+
+/// Judges a deletion of the file. It takes no memory for at most 16 literals.
+fn take_deletion(
+    p: &mut Parts,
+    numbers: &mut Numbers,
+    lits: &[Lit],
+) -> Result<Option<Rule>, AllocError>
+    requires { IsBetweenLines p.old.engine p.old.events }
+    ensures judged { IfOk result (λ r. JudgedThrough numbers.old.vars numbers.new.vars (state_of p.old) (state_of p.new) (steps.Delete lits.now) r) }
+    ensures vars { numbers.new.vars ≡ numbers.old.vars }
+    ensures inside { IsBetweenLines p.new.engine p.new.events }
+    ensures next { p.new.next ≤ p.old.next + 1 }
+    ensures short { length lits.now ≤ 16 → IsOk result }
+{
+    match numbers.find(lits) {
+        Ok(true) => {}
+        Ok(false) => return Ok(Some(Rule::NotActive(1))),
+        Err(_) => return Err(AllocError),
+    }
+    match judge_deletion(p, numbers.lits()) {
+        Ok(answer) => Ok(shown_answer(answer, numbers.dense())),
+        Err(fault) => Err(fault),
+    }
+}
+
+/// Judges a weakening of the file.
+fn take_weakening(
+    p: &mut Parts,
+    numbers: &mut Numbers,
+    lits: &[Lit],
+) -> Result<Option<Rule>, AllocError>
+    requires { IsBetweenLines p.old.engine p.old.events }
+    ensures judged { IfOk result (λ r. JudgedThrough numbers.old.vars numbers.new.vars (state_of p.old) (state_of p.new) (steps.Weaken lits.now) r) }
+    ensures vars { numbers.new.vars ≡ numbers.old.vars }
+    ensures inside { IsBetweenLines p.new.engine p.new.events }
+    ensures next { p.new.next ≤ p.old.next + 1 }
+{
+    match numbers.find(lits) {
+        Ok(true) => {}
+        Ok(false) => return Ok(Some(Rule::NotActive(1))),
+        Err(_) => return Err(AllocError),
+    }
+    match judge_weakening(p, numbers.lits()) {
+        Ok(answer) => Ok(shown_answer(answer, numbers.dense())),
+        Err(fault) => Err(fault),
+    }
+}
+
+/// Judges a restoring of the file.
+fn take_restoring(
+    p: &mut Parts,
+    numbers: &mut Numbers,
+    lits: &[Lit],
+) -> Result<Option<Rule>, AllocError>
+    requires { IsBetweenLines p.old.engine p.old.events }
+    ensures judged { IfOk result (λ r. JudgedThrough numbers.old.vars numbers.new.vars (state_of p.old) (state_of p.new) (steps.Restore lits.now) r) }
+    ensures vars { numbers.new.vars ≡ numbers.old.vars }
+    ensures inside { IsBetweenLines p.new.engine p.new.events }
+    ensures next { p.new.next ≤ p.old.next + 1 }
+{
+    match numbers.find(lits) {
+        Ok(true) => {}
+        Ok(false) => return Ok(Some(Rule::NotWeakened(1))),
+        Err(_) => return Err(AllocError),
+    }
+    match judge_restoring(p, numbers.lits()) {
+        Ok(answer) => Ok(shown_answer(answer, numbers.dense())),
+        Err(fault) => Err(fault),
+    }
+}
+
+/// Judges a status of the file. It takes no memory.
+fn take_status(p: &mut Parts, numbers: &Numbers, word: StatusWord) -> Option<Rule>
+    requires { IsBetweenLines p.old.engine p.old.events }
+    ensures judged { JudgedThrough numbers.now.vars numbers.now.vars (state_of p.old) (state_of p.new) (steps.Event (events.Status word)) result }
+    ensures inside { IsBetweenLines p.new.engine p.new.events }
+    ensures next { p.new.next ≤ p.old.next + 1 }
+{
+    let answer = judge_status(p, word);
+    shown_answer(answer, numbers.dense())
+}
+
+/// Judges an event of the file.
+fn judge_event(
+    p: &mut Parts,
+    numbers: &mut Numbers,
+    event: &Event,
+) -> Result<Option<Rule>, AllocError>
+    requires inside { IsBetweenLines p.old.engine p.old.events }
+    requires next { p.old.next < 2 ^ 63 }
+    ensures judged { IfOk result (λ r. JudgedThrough numbers.old.vars numbers.new.vars (state_of p.old) (state_of p.new) (steps.Event event.now) r) }
+    ensures continues { Continues numbers.old.vars numbers.new.vars }
     ensures inside { IsBetweenLines p.new.engine p.new.events }
     ensures next { p.new.next ≤ p.old.next + 1 }
     ensures frugal { IsTrue (is_frugal (steps.Event event.now)) → IsOk result }
 {
     match event {
-        Event::Input(lits) => {
-            reserve(p, lits.as_slice())?;
-            judge_input(p, lits.as_slice())
-        }
-        Event::Query(lits) => {
-            reserve(p, lits.as_slice())?;
-            judge_query(p, lits.as_slice())
-        }
-        Event::Status(word) => Ok(judge_status(p, *word)),
-        Event::Model(lits) => {
-            reserve(p, lits.as_slice())?;
-            Ok(judge_model(p, lits.as_slice()))
-        }
-        Event::Core(lits) => Ok(judge_core(p, lits.as_slice())),
+        Event::Input(lits) => take_input(p, numbers, lits.as_slice()),
+        Event::Query(lits) => take_query(p, numbers, lits.as_slice()),
+        Event::Status(word) => Ok(take_status(p, numbers, *word)),
+        Event::Model(lits) => take_model(p, numbers, lits.as_slice()),
+        Event::Core(lits) => take_core(p, numbers, lits.as_slice()),
         // Parts of a model or of a core have no place in a proof.
         Event::Values(_) => Ok(Some(Rule::Order)),
         Event::Failed(_) => Ok(Some(Rule::Order)),
     }
 }
 
-/// Judges a step.
-fn judge(p: &mut Parts, step: &Step) -> Result<Option<Rule>, AllocError>
+/// Judges a step of the file.
+fn judge(p: &mut Parts, numbers: &mut Numbers, step: &Step) -> Result<Option<Rule>, AllocError>
     requires inside { IsBetweenLines p.old.engine p.old.events }
     requires next { p.old.next < 2 ^ 63 }
-    ensures judged { IfOk result (λ r. Judged (state_of p.old) (state_of p.new) step.now r) }
+    ensures judged { IfOk result (λ r. JudgedThrough numbers.old.vars numbers.new.vars (state_of p.old) (state_of p.new) step.now r) }
+    ensures continues { Continues numbers.old.vars numbers.new.vars }
     ensures inside { IsBetweenLines p.new.engine p.new.events }
     ensures next { p.new.next ≤ p.old.next + 1 }
     ensures frugal { IsTrue (is_frugal step.now) → IsOk result }
 {
     match step {
-        Step::Event(event) => judge_event(p, event),
-        Step::Lemma(lits) => {
-            reserve(p, lits.as_slice())?;
-            judge_lemma(p, lits.as_slice())
-        }
-        Step::Delete(lits) => judge_deletion(p, lits.as_slice()),
-        Step::Weaken(lits) => judge_weakening(p, lits.as_slice()),
-        Step::Restore(lits) => judge_restoring(p, lits.as_slice()),
+        Step::Event(event) => judge_event(p, numbers, event),
+        Step::Lemma(lits) => take_lemma(p, numbers, lits.as_slice()),
+        Step::Delete(lits) => take_deletion(p, numbers, lits.as_slice()),
+        Step::Weaken(lits) => take_weakening(p, numbers, lits.as_slice()),
+        Step::Restore(lits) => take_restoring(p, numbers, lits.as_slice()),
+    }
+}
+
+/// Keeps the literals of a query as the file has them. An error leaves all as it was.
+fn keep_asked(asked: &mut Vec<Lit>, step: &Step) -> Result<(), AllocError>
+    ensures ok { OnOk result (asked.new.items ≡ asked_after asked.old.items step.now) }
+    ensures err { OnErr result (asked.new.items ≡ asked.old.items) }
+    ensures frugal { IsTrue (is_frugal step.now) → IsOk result }
+{
+    match step {
+        Step::Event(Event::Query(lits)) => refill(asked, lits.as_slice()),
+        _ => Ok(()),
+    }
+}
+
+/// Judges a step of the file, and keeps the literals of a query.
+fn judge_and_keep(
+    p: &mut Parts,
+    numbers: &mut Numbers,
+    asked: &mut Vec<Lit>,
+    step: &Step,
+) -> Result<Option<Rule>, AllocError>
+    requires inside { IsBetweenLines p.old.engine p.old.events }
+    requires known { IsTrue (are_known numbers.old.vars asked.old.items) }
+    requires next { p.old.next < 2 ^ 63 }
+    ensures judged { IfOk result (λ r. JudgedThrough numbers.old.vars numbers.new.vars (state_of p.old) (state_of p.new) step.now r) }
+    ensures asked { IfOk result (λ r. IfNone r (asked.new.items ≡ asked_after asked.old.items step.now)) }
+    ensures known { IsTrue (are_known numbers.new.vars asked.new.items) }
+    ensures inside { IsBetweenLines p.new.engine p.new.events }
+    ensures next { p.new.next ≤ p.old.next + 1 }
+    ensures frugal { IsTrue (is_frugal step.now) → IsOk result }
+{
+    match judge(p, numbers, step) {
+        Ok(None) => {}
+        Ok(Some(rule)) => return Ok(Some(rule)),
+        Err(fault) => return Err(fault),
+    }
+    match keep_asked(asked, step) {
+        Ok(()) => Ok(None),
+        Err(fault) => Err(fault),
     }
 }
 
 /// Judges a proof without ids by itself, step by step.
 ///
-/// Contracts see whether it is live, its clauses by the ids that it gave, each active or weakened with its literal set, the
-/// next id, and what its events say: the phase, the assumptions, the inputs. It stands for a list of steps where these are
-/// what the steps leave: inputs and lemmas give ids from 1 on, a deletion and a weakening name the least active id of the
-/// clause's set, and a restoring the least weakened one.
+/// Contracts see whether it is live; the variables in the order in which they came; its clauses by the ids that it gave, each
+/// active or weakened with its literal set, the next id, and what its events say (the phase, the assumptions, the inputs), all of
+/// these over the variables' numbers; and the last query's literals as the file has them. It stands for a list of steps where
+/// these are what the steps leave: inputs and lemmas give ids from 1 on, a deletion and a weakening name the least active id of
+/// the clause's set, and a restoring the least weakened one.
 #[derive(Drop)]
 pub struct IdrupSide {
     parts: Parts,
+    numbers: Numbers,
+    asked: Vec<Lit>,
     live: bool,
 }
 
@@ -282,15 +531,15 @@ impl Model for IdrupSide {
     ghost use Rattle.std.specs.Coded.{codes};
     ghost use Rattle.side_laws.specs.ClauseStates.{clauses_code};
     ghost use Rattle.pair_matcher.specs.Sides.{IdrupView};
-    ghost use Rattle.pair_matcher.specs.Inside.{clauses_of_engine, IsBetweenLines};
+    ghost use Rattle.pair_matcher.specs.Inside.{clauses_of_engine, IsReady};
 
     ghost Value = { IdrupView };
 
     ghost coded = { Prim.hlevel (codes, clauses_code) };
 
-    ghost view = { λ s. record { live = s.live; clauses = clauses_of_engine s.parts.engine; next = s.parts.next; events = s.parts.events } };
+    ghost view = { λ s. record { live = s.live; clauses = clauses_of_engine s.parts.engine; next = s.parts.next; events = s.parts.events; vars = s.numbers.vars; asked = s.asked.items } };
 
-    ghost invariant = { λ s. IsBetweenLines s.parts.engine s.parts.events };
+    ghost invariant = { λ s. IsReady s.parts.engine s.parts.events s.numbers.vars s.asked.items };
 }
 
 impl IdrupSide {
@@ -308,54 +557,58 @@ impl IdrupSide {
             next: 1,
             alloc,
         };
-        Ok(IdrupSide { parts, live: true })
+        let numbers = Numbers::new(alloc);
+        let asked = Vec::new(alloc);
+        Ok(IdrupSide {
+            parts,
+            numbers,
+            asked,
+            live: true,
+        })
     }
 
     /// The first own rule that the step breaks, or `None`. After `None` the side is live and stands for the steps so far
-    /// with this one at their end; after a rule, or where memory is wanting, it isn't live and is given up. A status and a
-    /// core take no memory, and neither does a deletion of at most 16 literals.
+    /// with this one at their end; after a rule, or where memory is wanting, it isn't live and is given up. A status takes no
+    /// memory, and neither does a core or a deletion of at most 16 literals.
+    #[tactic(auto, using(crate::proofs::Translating::step_stands, crate::proofs::Translating::step_named))]
     pub fn step(&mut self, step: &Step) -> Result<Option<Rule>, AllocError>
         requires live { IsTrue self.old.live }
         requires next { self.old.next < 2 ^ 63 }
         ensures rule { IfOk result (λ r. (ps : List Step) → StandsFor self.old ps → r ≡ first_rule (own_faults ps step.now)) }
         ensures stands { IfOk result (λ r. IfNone r ((ps : List Step) → StandsFor self.old ps → StandsFor self.new (ps ++ step.now ∷ []))) }
+        ensures known { IfOk result (λ r. IfNone r (IsTrue (is_known_step self.new.vars step.now))) }
         // An input and a lemma name the next id, a deletion and a weakening the least active id of the clause's set, a restoring
         // the least weakened one; of all ids the step changes this one alone.
-        ensures named { IfOk result (λ r. IfNone r ((ps : List Step) → StandsFor self.old ps → (id : ℕ) → named_id ps step.now ≡ Some id
-            → ChangesAt self.old.clauses self.new.clauses id (kept_at (ps ++ step.now ∷ []) id))) }
+        ensures named { IfOk result (λ r. IfNone r (ChangesNamedAlone self.old self.new step.now)) }
         ensures live { IfOk result (λ r. self.new.live ≡ is_none r) }
         ensures err { OnErr result (self.new.live ≡ false) }
         ensures next { self.new.next ≤ self.old.next + 1 }
         ensures frugal { IsTrue (is_frugal step.now) → IsOk result }
     {
-        let judged = judge(&mut self.parts, step);
+        let judged = judge_and_keep(&mut self.parts, &mut self.numbers, &mut self.asked, step);
         self.live = matches!(judged, Ok(None));
         judged
     }
 
-    /// The literals of the last query, in its order and with its repeats; none before the first query.
+    /// The literals of the last query as the file has them, in its order and with its repeats; none before the first query.
     pub fn assumed(&self) -> &[Lit]
-        ensures { result.now ≡ self.now.events.assumed }
+        ensures value { result.now ≡ self.now.asked }
+        ensures known { IsTrue (are_known self.now.vars self.now.asked) }
     {
-        self.parts.events.assumed()
+        self.asked.as_slice()
     }
 
-    /// The greatest reserved variable, 0 where none is. No literal of the last query is beyond it.
-    pub fn reserved(&self) -> u32
-        ensures value { result ≡ self.now.events.reserved }
-        ensures limit { result ≤ max_var }
-        ensures assumed { All (λ l. var l ≤ result) self.now.events.assumed }
+    /// The numbers of the file's variables, in the order in which they came.
+    pub fn dense(&self) -> &Dense
+        ensures { result.now ≡ self.now.vars }
     {
-        self.parts.events.reserved()
+        self.numbers.dense()
     }
 
     /// Unfinished exactly where a query is open.
     pub fn finish(&self) -> Option<Rule>
         ensures { (ps : List Step) → StandsFor self.now ps → result ≡ first_rule (broken_unless (is_idle (phase (events_of ps))) Rule.Unfinished) }
     {
-        match self.parts.events.phase() {
-            Phase::Idle => None,
-            Phase::Asked | Phase::Told(_) => Some(Rule::Unfinished),
-        }
+        end_rule(self.parts.events.phase())
     }
 }

@@ -6,6 +6,7 @@ mod idrup;
 mod lidrup;
 mod literals;
 mod proof_side;
+mod strangers;
 #[cfg(test)]
 mod tests;
 mod turns;

@@ -1,24 +1,31 @@
-// The side of a proof with ids. It keeps the clauses by id and what the events say, and checks hints over the active clauses.
+// The side of a proof with ids. It numbers the file's variables in the order in which they come, and all that it keeps is over these
+// numbers; a core gives no number. It keeps the clauses by id and what the events say, and checks hints over the active clauses.
 
-ghost use Rattle.std.specs.Prelude.{◌≡◌, ◌≤◌, List, [], ◌∷◌, ◌++◌, true, false, IsTrue, IfOk, IfNone, IsOk, OnOk, OnErr, is_none, All};
-ghost use Rattle.lits.specs.Literal.{max_var, var};
+ghost use Rattle.std.specs.Prelude.{◌≡◌, ◌≤◌, List, [], ◌∷◌, ◌++◌, true, false, IsTrue, IfOk, IfNone, IsOk, OnOk, OnErr, is_none};
+ghost use Rattle.lits.specs.Numbering.{are_known, dense_lits};
+ghost use Rattle.numbered_lits.specs.Numbers.{Continues, AreNumbers};
+ghost use Rattle.numbering_laws.specs.Dense.{is_known_id_step};
 ghost use Rattle.session_rules.specs.declared.LStep.{LStep};
 ghost use Rattle.session_rules.specs.declared.LStep.TheVariants as lsteps;
 ghost use Rattle.session_rules.specs.History.{phase, broken_unless};
-ghost use Rattle.session_rules.specs.Own.{id_events_of, own_id_faults};
+ghost use Rattle.session_rules.specs.Logic.{hints_fail};
+ghost use Rattle.session_rules.specs.Own.{active_clause, id_events_of, own_id_faults};
 ghost use Rattle.session_rules.specs.Pair.{is_idle};
 ghost use Rattle.session_events.specs.State.{AreReserved};
 ghost use Rattle.side_laws.specs.ClauseStates.{clauses_of_store};
-ghost use Rattle.pair_matcher.specs.Sides.{StandsForIds, AreAfterIds, JudgedId, first_rule, takes_no_memory};
+ghost use Rattle.hint_check.specs.Hints.{end_of};
+ghost use Rattle.pair_matcher.specs.Sides.{StandsForIds, AreAfterIds, AreAfterIdsThrough, JudgedId, JudgedIdThrough, first_rule, asked_after_id, takes_no_memory};
 ghost use Rattle.pair_matcher.specs.Inside.{HasHintRoom, state_of_ids};
 
-use crate::literals::{greatest_variable, negate};
+use crate::literals::{end_rule, negate, refill, shown_answer};
+use crate::strangers::first_stranger;
 use crate::turns::{delete_each, restore_each, weaken_each};
 use clause_store::{Store, StoreFault};
 use hint_check::{HintCheck, HintEnd};
-use lits::Lit;
+use lits::{Dense, Lit};
+use numbered_lits::Numbers;
 use session_events::{Events, Kind};
-use session_rules::{Id, LStep, Phase, Rule, StatusWord};
+use session_rules::{Id, LStep, Rule, StatusWord};
 use std::alloc::{AllocError, Global};
 use std::marker::Model;
 
@@ -31,16 +38,31 @@ struct Parts {
     negations: Vec<Lit>,
 }
 
-/// Reserves the variables of literals.
-fn reserve(p: &mut Parts, lits: &[Lit]) -> Result<(), AllocError>
+/// Translates the literals of a line that may name new variables, and reserves all numbers.
+fn number(p: &mut Parts, numbers: &mut Numbers, lits: &[Lit]) -> Result<(), AllocError>
     requires { HasHintRoom p.old.store p.old.events p.old.hints }
-    ensures reserved { OnOk result (AreReserved p.new.events lits.now) }
+    ensures lits { OnOk result (numbers.new.lits ≡ dense_lits numbers.new.vars lits.now) }
+    ensures known { OnOk result (IsTrue (are_known numbers.new.vars lits.now)) }
+    ensures continues { Continues numbers.old.vars numbers.new.vars }
+    ensures reserved { OnOk result (AreReserved p.new.events numbers.new.lits) }
     ensures stands { (ps : List LStep) → AreAfterIds (state_of_ids p.old) ps → AreAfterIds (state_of_ids p.new) ps }
     ensures inside { HasHintRoom p.new.store p.new.events p.new.hints }
 {
-    let variable = greatest_variable(lits);
-    p.hints.reserve(variable)?;
-    p.events.reserve(variable)?;
+    numbers.number(lits)?;
+    reserve(p, numbers)
+}
+
+/// Reserves all numbers of variables.
+fn reserve(p: &mut Parts, numbers: &Numbers) -> Result<(), AllocError>
+    requires inside { HasHintRoom p.old.store p.old.events p.old.hints }
+    requires numbers { AreNumbers numbers.now.vars numbers.now.lits }
+    ensures reserved { OnOk result (AreReserved p.new.events numbers.now.lits) }
+    ensures stands { (ps : List LStep) → AreAfterIds (state_of_ids p.old) ps → AreAfterIds (state_of_ids p.new) ps }
+    ensures inside { HasHintRoom p.new.store p.new.events p.new.hints }
+{
+    let count = numbers.count();
+    p.hints.reserve(count)?;
+    p.events.reserve(count)?;
     Ok(())
 }
 
@@ -191,55 +213,267 @@ fn judge_restoring(p: &mut Parts, ids: &[Id]) -> Result<Option<Rule>, AllocError
     }
 }
 
-/// Judges a step.
-fn judge(p: &mut Parts, step: &LStep) -> Result<Option<Rule>, AllocError>
+/// Judges an input of the file.
+fn take_input(
+    p: &mut Parts,
+    numbers: &mut Numbers,
+    id: Id,
+    lits: &[Lit],
+) -> Result<Option<Rule>, AllocError>
     requires { HasHintRoom p.old.store p.old.events p.old.hints }
-    ensures judged { IfOk result (λ r. JudgedId (state_of_ids p.old) (state_of_ids p.new) step.now r) }
+    ensures judged { IfOk result (λ r. JudgedIdThrough numbers.old.vars numbers.new.vars (state_of_ids p.old) (state_of_ids p.new) (lsteps.Input id lits.now) r) }
+    ensures continues { Continues numbers.old.vars numbers.new.vars }
+    ensures inside { HasHintRoom p.new.store p.new.events p.new.hints }
+{
+    number(p, numbers, lits)?;
+    match judge_input(p, id, numbers.lits()) {
+        Ok(answer) => Ok(shown_answer(answer, numbers.dense())),
+        Err(fault) => Err(fault),
+    }
+}
+
+/// Judges a lemma of the file.
+fn take_lemma(
+    p: &mut Parts,
+    numbers: &mut Numbers,
+    id: Id,
+    lits: &[Lit],
+    hints: &[Id],
+) -> Result<Option<Rule>, AllocError>
+    requires { HasHintRoom p.old.store p.old.events p.old.hints }
+    ensures judged { IfOk result (λ r. JudgedIdThrough numbers.old.vars numbers.new.vars (state_of_ids p.old) (state_of_ids p.new) (lsteps.Lemma id lits.now hints.now) r) }
+    ensures continues { Continues numbers.old.vars numbers.new.vars }
+    ensures inside { HasHintRoom p.new.store p.new.events p.new.hints }
+{
+    number(p, numbers, lits)?;
+    match judge_lemma(p, id, numbers.lits(), hints) {
+        Ok(answer) => Ok(shown_answer(answer, numbers.dense())),
+        Err(fault) => Err(fault),
+    }
+}
+
+/// Judges a query of the file.
+fn take_query(
+    p: &mut Parts,
+    numbers: &mut Numbers,
+    lits: &[Lit],
+) -> Result<Option<Rule>, AllocError>
+    requires { HasHintRoom p.old.store p.old.events p.old.hints }
+    ensures judged { IfOk result (λ r. JudgedIdThrough numbers.old.vars numbers.new.vars (state_of_ids p.old) (state_of_ids p.new) (lsteps.Query lits.now) r) }
+    ensures continues { Continues numbers.old.vars numbers.new.vars }
+    ensures inside { HasHintRoom p.new.store p.new.events p.new.hints }
+{
+    number(p, numbers, lits)?;
+    match judge_query(p, numbers.lits()) {
+        Ok(answer) => Ok(shown_answer(answer, numbers.dense())),
+        Err(fault) => Err(fault),
+    }
+}
+
+/// Judges a model of the file.
+fn take_model(
+    p: &mut Parts,
+    numbers: &mut Numbers,
+    lits: &[Lit],
+) -> Result<Option<Rule>, AllocError>
+    requires { HasHintRoom p.old.store p.old.events p.old.hints }
+    ensures judged { IfOk result (λ r. JudgedIdThrough numbers.old.vars numbers.new.vars (state_of_ids p.old) (state_of_ids p.new) (lsteps.Model lits.now) r) }
+    ensures continues { Continues numbers.old.vars numbers.new.vars }
+    ensures inside { HasHintRoom p.new.store p.new.events p.new.hints }
+{
+    number(p, numbers, lits)?;
+    let answer = judge_model(p, numbers.lits());
+    Ok(shown_answer(answer, numbers.dense()))
+}
+
+/// Follows the hints of a core that has a literal without a number. Such a literal is in no clause, so the others are followed
+/// alone, unless two without a number are opposite.
+fn follow_strange(
+    p: &mut Parts,
+    numbers: &mut Numbers,
+    u: &[Lit],
+    hints: &[Id],
+) -> Result<HintEnd, AllocError>
+    requires { HasHintRoom p.old.store p.old.events p.old.hints }
+    ensures end { IfOk result (λ end. (ps : List LStep) → AreAfterIdsThrough numbers.old.vars (state_of_ids p.old) ps
+        → end ≡ end_of (hints_fail (active_clause ps) u.now hints.now)) }
+    ensures vars { numbers.new.vars ≡ numbers.old.vars }
+    ensures stands { (ps : List LStep) → AreAfterIds (state_of_ids p.old) ps → AreAfterIds (state_of_ids p.new) ps }
+    ensures inside { HasHintRoom p.new.store p.new.events p.new.hints }
+{
+    if numbers.find_known(u)? {
+        return Ok(HintEnd::Closed);
+    }
+    reserve(p, numbers)?;
+    Ok(p.hints.run(&p.store, numbers.lits(), hints))
+}
+
+/// Judges a core of the file that has a literal without a number.
+fn judge_strange_core(
+    p: &mut Parts,
+    numbers: &mut Numbers,
+    u: &[Lit],
+    hints: &[Id],
+) -> Result<Option<Rule>, AllocError>
+    requires inside { HasHintRoom p.old.store p.old.events p.old.hints }
+    requires strange { are_known numbers.old.vars u.now ≡ false }
+    ensures judged { IfOk result (λ r. JudgedIdThrough numbers.old.vars numbers.new.vars (state_of_ids p.old) (state_of_ids p.new) (lsteps.Core u.now hints.now) r) }
+    ensures vars { numbers.new.vars ≡ numbers.old.vars }
+    ensures inside { HasHintRoom p.new.store p.new.events p.new.hints }
+{
+    if let Some(rule) = p.events.order_rule(Kind::Core) {
+        return Ok(Some(rule));
+    }
+    match follow_strange(p, numbers, u, hints)? {
+        HintEnd::Closed => {}
+        HintEnd::Fails { position } => return Ok(Some(Rule::Hint(position))),
+    }
+    numbers.find(u)?;
+    Ok(Some(first_stranger(&mut p.events, numbers, u)))
+}
+
+/// Judges a core of the file.
+fn take_core(
+    p: &mut Parts,
+    numbers: &mut Numbers,
+    u: &[Lit],
+    hints: &[Id],
+) -> Result<Option<Rule>, AllocError>
+    requires { HasHintRoom p.old.store p.old.events p.old.hints }
+    ensures judged { IfOk result (λ r. JudgedIdThrough numbers.old.vars numbers.new.vars (state_of_ids p.old) (state_of_ids p.new) (lsteps.Core u.now hints.now) r) }
+    ensures vars { numbers.new.vars ≡ numbers.old.vars }
+    ensures inside { HasHintRoom p.new.store p.new.events p.new.hints }
+{
+    if numbers.find(u)? {
+        reserve(p, numbers)?;
+        let answer = judge_core(p, numbers.lits(), hints);
+        return Ok(shown_answer(answer, numbers.dense()));
+    }
+    judge_strange_core(p, numbers, u, hints)
+}
+
+/// Judges a status of the file. It takes no memory.
+fn take_status(p: &mut Parts, numbers: &Numbers, word: StatusWord) -> Option<Rule>
+    requires { HasHintRoom p.old.store p.old.events p.old.hints }
+    ensures judged { JudgedIdThrough numbers.now.vars numbers.now.vars (state_of_ids p.old) (state_of_ids p.new) (lsteps.Status word) result }
+    ensures inside { HasHintRoom p.new.store p.new.events p.new.hints }
+{
+    let answer = judge_status(p, word);
+    shown_answer(answer, numbers.dense())
+}
+
+/// Judges a deletion of the file. It takes no memory.
+fn take_deletion(p: &mut Parts, numbers: &Numbers, ids: &[Id]) -> Option<Rule>
+    requires { HasHintRoom p.old.store p.old.events p.old.hints }
+    ensures judged { JudgedIdThrough numbers.now.vars numbers.now.vars (state_of_ids p.old) (state_of_ids p.new) (lsteps.Delete ids.now) result }
+    ensures inside { HasHintRoom p.new.store p.new.events p.new.hints }
+{
+    let answer = judge_deletion(p, ids);
+    shown_answer(answer, numbers.dense())
+}
+
+/// Judges a weakening of the file.
+fn take_weakening(p: &mut Parts, numbers: &Numbers, ids: &[Id]) -> Result<Option<Rule>, AllocError>
+    requires { HasHintRoom p.old.store p.old.events p.old.hints }
+    ensures judged { IfOk result (λ r. JudgedIdThrough numbers.now.vars numbers.now.vars (state_of_ids p.old) (state_of_ids p.new) (lsteps.Weaken ids.now) r) }
+    ensures inside { HasHintRoom p.new.store p.new.events p.new.hints }
+{
+    match judge_weakening(p, ids) {
+        Ok(answer) => Ok(shown_answer(answer, numbers.dense())),
+        Err(fault) => Err(fault),
+    }
+}
+
+/// Judges a restoring of the file.
+fn take_restoring(p: &mut Parts, numbers: &Numbers, ids: &[Id]) -> Result<Option<Rule>, AllocError>
+    requires { HasHintRoom p.old.store p.old.events p.old.hints }
+    ensures judged { IfOk result (λ r. JudgedIdThrough numbers.now.vars numbers.now.vars (state_of_ids p.old) (state_of_ids p.new) (lsteps.Restore ids.now) r) }
+    ensures inside { HasHintRoom p.new.store p.new.events p.new.hints }
+{
+    match judge_restoring(p, ids) {
+        Ok(answer) => Ok(shown_answer(answer, numbers.dense())),
+        Err(fault) => Err(fault),
+    }
+}
+
+/// Judges a step of the file.
+fn judge(p: &mut Parts, numbers: &mut Numbers, step: &LStep) -> Result<Option<Rule>, AllocError>
+    requires { HasHintRoom p.old.store p.old.events p.old.hints }
+    ensures judged { IfOk result (λ r. JudgedIdThrough numbers.old.vars numbers.new.vars (state_of_ids p.old) (state_of_ids p.new) step.now r) }
+    ensures continues { Continues numbers.old.vars numbers.new.vars }
     ensures inside { HasHintRoom p.new.store p.new.events p.new.hints }
     ensures frugal { IsTrue (takes_no_memory step.now) → IsOk result }
 {
     match step {
-        LStep::Input { id, lits } => {
-            reserve(p, lits.as_slice())?;
-            judge_input(p, *id, lits.as_slice())
-        }
+        LStep::Input { id, lits } => take_input(p, numbers, *id, lits.as_slice()),
         LStep::Lemma { id, lits, hints } => {
-            reserve(p, lits.as_slice())?;
-            judge_lemma(p, *id, lits.as_slice(), hints.as_slice())
+            take_lemma(p, numbers, *id, lits.as_slice(), hints.as_slice())
         }
-        LStep::Delete(ids) => Ok(judge_deletion(p, ids.as_slice())),
-        LStep::Weaken(ids) => judge_weakening(p, ids.as_slice()),
-        LStep::Restore(ids) => judge_restoring(p, ids.as_slice()),
-        LStep::Query(lits) => {
-            reserve(p, lits.as_slice())?;
-            judge_query(p, lits.as_slice())
-        }
-        LStep::Status(word) => Ok(judge_status(p, *word)),
-        LStep::Model(lits) => {
-            reserve(p, lits.as_slice())?;
-            Ok(judge_model(p, lits.as_slice()))
-        }
-        LStep::Core { lits, hints } => {
-            reserve(p, lits.as_slice())?;
-            Ok(judge_core(p, lits.as_slice(), hints.as_slice()))
-        }
+        LStep::Delete(ids) => Ok(take_deletion(p, numbers, ids.as_slice())),
+        LStep::Weaken(ids) => take_weakening(p, numbers, ids.as_slice()),
+        LStep::Restore(ids) => take_restoring(p, numbers, ids.as_slice()),
+        LStep::Query(lits) => take_query(p, numbers, lits.as_slice()),
+        LStep::Status(word) => Ok(take_status(p, numbers, *word)),
+        LStep::Model(lits) => take_model(p, numbers, lits.as_slice()),
+        LStep::Core { lits, hints } => take_core(p, numbers, lits.as_slice(), hints.as_slice()),
+    }
+}
+
+/// Keeps the literals of a query as the file has them. An error leaves all as it was.
+fn keep_asked(asked: &mut Vec<Lit>, step: &LStep) -> Result<(), AllocError>
+    ensures ok { OnOk result (asked.new.items ≡ asked_after_id asked.old.items step.now) }
+    ensures err { OnErr result (asked.new.items ≡ asked.old.items) }
+    ensures frugal { IsTrue (takes_no_memory step.now) → IsOk result }
+{
+    match step {
+        LStep::Query(lits) => refill(asked, lits.as_slice()),
+        _ => Ok(()),
+    }
+}
+
+/// Judges a step of the file, and keeps the literals of a query.
+fn judge_and_keep(
+    p: &mut Parts,
+    numbers: &mut Numbers,
+    asked: &mut Vec<Lit>,
+    step: &LStep,
+) -> Result<Option<Rule>, AllocError>
+    requires inside { HasHintRoom p.old.store p.old.events p.old.hints }
+    requires known { IsTrue (are_known numbers.old.vars asked.old.items) }
+    ensures judged { IfOk result (λ r. JudgedIdThrough numbers.old.vars numbers.new.vars (state_of_ids p.old) (state_of_ids p.new) step.now r) }
+    ensures asked { IfOk result (λ r. IfNone r (asked.new.items ≡ asked_after_id asked.old.items step.now)) }
+    ensures known { IsTrue (are_known numbers.new.vars asked.new.items) }
+    ensures inside { HasHintRoom p.new.store p.new.events p.new.hints }
+    ensures frugal { IsTrue (takes_no_memory step.now) → IsOk result }
+{
+    match judge(p, numbers, step) {
+        Ok(None) => {}
+        Ok(Some(rule)) => return Ok(Some(rule)),
+        Err(fault) => return Err(fault),
+    }
+    match keep_asked(asked, step) {
+        Ok(()) => Ok(None),
+        Err(fault) => Err(fault),
     }
 }
 
 /// Judges a proof with ids by itself, step by step.
 ///
-/// Contracts see whether it is live, its clauses by id, each active or weakened with its literal set, and what its events
-/// say: the phase, the assumptions, the inputs. It stands for a list of steps where these are what the steps leave.
+/// Contracts see whether it is live; the variables in the order in which they came; its clauses by id, each active or weakened
+/// with its literal set, and what its events say (the phase, the assumptions, the inputs), both over the variables' numbers; and
+/// the last query's literals as the file has them. It stands for a list of steps where these are what the steps leave.
 #[derive(Drop)]
 pub struct LidrupSide {
     parts: Parts,
+    numbers: Numbers,
+    asked: Vec<Lit>,
     live: bool,
 }
 
 impl Model for LidrupSide {
     ghost use Rattle.side_laws.specs.ClauseStates.{clauses_of_store};
     ghost use Rattle.pair_matcher.specs.Sides.{LidrupView};
-    ghost use Rattle.pair_matcher.specs.Inside.{HasHintRoom};
+    ghost use Rattle.pair_matcher.specs.Inside.{IsReadyForIds};
     ghost use Rattle.std.specs.Coded.{codes};
     ghost use Rattle.side_laws.specs.ClauseStates.{clauses_code};
 
@@ -247,9 +481,9 @@ impl Model for LidrupSide {
 
     ghost coded = { Prim.hlevel (codes, clauses_code) };
 
-    ghost view = { λ s. record { live = s.live; clauses = clauses_of_store s.parts.store; events = s.parts.events } };
+    ghost view = { λ s. record { live = s.live; clauses = clauses_of_store s.parts.store; events = s.parts.events; vars = s.numbers.vars; asked = s.asked.items } };
 
-    ghost invariant = { λ s. HasHintRoom s.parts.store s.parts.events s.parts.hints };
+    ghost invariant = { λ s. IsReadyForIds s.parts.store s.parts.events s.parts.hints s.numbers.vars s.asked.items };
 }
 
 impl LidrupSide {
@@ -265,48 +499,53 @@ impl LidrupSide {
             hints: HintCheck::new(alloc),
             negations: Vec::new(alloc),
         };
-        Ok(LidrupSide { parts, live: true })
+        let numbers = Numbers::new(alloc);
+        let asked = Vec::new(alloc);
+        Ok(LidrupSide {
+            parts,
+            numbers,
+            asked,
+            live: true,
+        })
     }
 
     /// The first own rule that the step breaks, or `None`. After `None` the side is live and stands for the steps so far
     /// with this one at their end; after a rule, or where memory is wanting, it isn't live and is given up. A status and a
     /// deletion take no memory.
+    #[tactic(auto, using(crate::proofs::TranslatingIds::id_step_stands))]
     pub fn step(&mut self, step: &LStep) -> Result<Option<Rule>, AllocError>
         requires live { IsTrue self.old.live }
         ensures rule { IfOk result (λ r. (ps : List LStep) → StandsForIds self.old ps → r ≡ first_rule (own_id_faults ps step.now)) }
         ensures stands { IfOk result (λ r. IfNone r ((ps : List LStep) → StandsForIds self.old ps → StandsForIds self.new (ps ++ step.now ∷ []))) }
+        ensures known { IfOk result (λ r. IfNone r (IsTrue (is_known_id_step self.new.vars step.now))) }
         ensures live { IfOk result (λ r. self.new.live ≡ is_none r) }
         ensures err { OnErr result (self.new.live ≡ false) }
         ensures frugal { IsTrue (takes_no_memory step.now) → IsOk result }
     {
-        let judged = judge(&mut self.parts, step);
+        let judged = judge_and_keep(&mut self.parts, &mut self.numbers, &mut self.asked, step);
         self.live = matches!(judged, Ok(None));
         judged
     }
 
-    /// The literals of the last query, in its order and with its repeats; none before the first query.
+    /// The literals of the last query as the file has them, in its order and with its repeats; none before the first query.
     pub fn assumed(&self) -> &[Lit]
-        ensures { result.now ≡ self.now.events.assumed }
+        ensures value { result.now ≡ self.now.asked }
+        ensures known { IsTrue (are_known self.now.vars self.now.asked) }
     {
-        self.parts.events.assumed()
+        self.asked.as_slice()
     }
 
-    /// The greatest reserved variable, 0 where none is. No literal of the last query is beyond it.
-    pub fn reserved(&self) -> u32
-        ensures value { result ≡ self.now.events.reserved }
-        ensures limit { result ≤ max_var }
-        ensures assumed { All (λ l. var l ≤ result) self.now.events.assumed }
+    /// The numbers of the file's variables, in the order in which they came.
+    pub fn dense(&self) -> &Dense
+        ensures { result.now ≡ self.now.vars }
     {
-        self.parts.events.reserved()
+        self.numbers.dense()
     }
 
     /// Unfinished exactly where a query is open.
     pub fn finish(&self) -> Option<Rule>
         ensures { (ps : List LStep) → StandsForIds self.now ps → result ≡ first_rule (broken_unless (is_idle (phase (id_events_of ps))) Rule.Unfinished) }
     {
-        match self.parts.events.phase() {
-            Phase::Idle => None,
-            Phase::Asked | Phase::Told(_) => Some(Rule::Unfinished),
-        }
+        end_rule(self.parts.events.phase())
     }
 }

@@ -1,14 +1,14 @@
 // What the check of a pair needs of the side of a proof, whichever the proof's form: how a line is read, what a step breaks by
 // itself, and which event of the interaction it is.
 
-ghost use Rattle.std.specs.Prelude.{◌≡◌, ℕ, ◌+◌, ◌<◌, ◌≤◌, ◌^◌, Bool, true, List, [], ◌∷◌, ◌++◌, All, filter_map, IsTrue, IfOk, IfNone, IsErrOf, is_some};
-ghost use Rattle.lits.specs.Literal.{max_var, var};
+ghost use Rattle.std.specs.Prelude.{◌≡◌, ℕ, ◌+◌, ◌<◌, ◌≤◌, ◌^◌, Bool, true, List, [], ◌∷◌, ◌++◌, filter_map, IsTrue, IfOk, IfNone, IfSome, IsErrOf, is_some};
 ghost use Rattle.outside.specs.Faults.{Rose};
 ghost use Rattle.session_rules.specs.declared.Rule.TheVariants as rules;
 ghost use Rattle.session_rules.specs.declared.LineFault.{LineFault};
-ghost use Rattle.session_rules.specs.History.{phase, broken_unless};
+ghost use Rattle.session_rules.specs.History.{phase, broken_unless, event_literals};
 ghost use Rattle.session_rules.specs.History as history;
 ghost use Rattle.session_rules.specs.Pair.{ProofForm, is_idle, without_ids, with_ids};
+ghost use Rattle.icnf_lines.specs.Marks.{AreKnown};
 ghost use Rattle.slice_tokens.specs.Place.{ahead, WhereTold};
 ghost use Rattle.slice_tokens.specs.Calls.{Moves};
 ghost use Rattle.line_reading.specs.Whole.{LineAnswers};
@@ -17,7 +17,7 @@ ghost use Rattle.pair_matcher.specs.Sides.{StandsFor, StandsForIds, first_rule};
 use crate::idrup::IdrupSide;
 use crate::lidrup::LidrupSide;
 use line_reading::Spare;
-use lits::Lit;
+use lits::{Dense, Lit};
 use outside::Source;
 use session_rules::{Event, LStep, LineFault, Rule, Step};
 use slice_tokens::Window;
@@ -41,6 +41,9 @@ pub trait ProofSide: Drop {
 
     /// The literals of the last query.
     ghost assumed: { Self → List ℕ };
+
+    /// The variables of the proof so far, in the order of their numbers.
+    ghost vars: { Self → List ℕ };
 
     /// The side before the first step.
     fn start(alloc: Global) -> Result<Self, AllocError>
@@ -67,6 +70,7 @@ pub trait ProofSide: Drop {
         requires next { next self.old < 2 ^ 63 }
         ensures rule { IfOk result (λ r. (ps : List Self.Step) → stands self.old ps → r ≡ first_rule (form.faults ps step.now)) }
         ensures stands { IfOk result (λ r. IfNone r ((ps : List Self.Step) → stands self.old ps → stands self.new (ps ++ step.now ∷ []))) }
+        ensures known { IfOk result (λ r. IfNone r (IfSome (form.event step.now) (λ e. AreKnown (vars self.new) (event_literals e)))) }
         ensures live { IfOk result (λ r. IfNone r (live self.new ≡ true)) }
         ensures next { next self.new ≤ next self.old + 1 };
 
@@ -74,15 +78,15 @@ pub trait ProofSide: Drop {
     fn end_rule(&self) -> Option<Rule>
         ensures { (ps : List Self.Step) → stands self.now ps → result ≡ first_rule (broken_unless (is_idle (phase (filter_map form.event ps))) rules.Unfinished) };
 
-    /// The literals of the last query.
+    /// The literals of the last query. Their variables have numbers.
     fn assumptions(&self) -> &[Lit]
         ensures value { result.now ≡ assumed self.now }
+        ensures known { AreKnown (vars self.now) (assumed self.now) }
         ensures last { (ps : List Self.Step) → stands self.now ps → assumed self.now ≡ history.assumed (filter_map form.event ps) };
 
-    /// A variable that none of these literals is beyond.
-    fn greatest(&self) -> u32
-        ensures limit { result ≤ max_var }
-        ensures assumed { All (λ l. var l ≤ result) (assumed self.now) };
+    /// The numbers of the proof's variables.
+    fn dense(&self) -> &Dense
+        ensures { result.now ≡ vars self.now };
 
     /// The event of a step, where it is one. Lists of the step that aren't the event's are spare from then on.
     fn into_event(step: Self::Step, spare: &mut Spare) -> Option<Event>
@@ -100,7 +104,9 @@ impl ProofSide for IdrupSide {
 
     ghost next = { λ s. s.next };
 
-    ghost assumed = { λ s. s.events.assumed };
+    ghost assumed = { λ s. s.asked };
+
+    ghost vars = { λ s. s.vars };
 
     fn start(alloc: Global) -> Result<IdrupSide, AllocError> {
         IdrupSide::new(alloc)
@@ -126,8 +132,8 @@ impl ProofSide for IdrupSide {
         self.assumed()
     }
 
-    fn greatest(&self) -> u32 {
-        self.reserved()
+    fn dense(&self) -> &Dense {
+        self.dense()
     }
 
     fn into_event(step: Step, spare: &mut Spare) -> Option<Event> {
@@ -152,7 +158,9 @@ impl ProofSide for LidrupSide {
 
     ghost next = { λ s. 0 };
 
-    ghost assumed = { λ s. s.events.assumed };
+    ghost assumed = { λ s. s.asked };
+
+    ghost vars = { λ s. s.vars };
 
     fn start(alloc: Global) -> Result<LidrupSide, AllocError> {
         LidrupSide::new(alloc)
@@ -178,8 +186,8 @@ impl ProofSide for LidrupSide {
         self.assumed()
     }
 
-    fn greatest(&self) -> u32 {
-        self.reserved()
+    fn dense(&self) -> &Dense {
+        self.dense()
     }
 
     fn into_event(step: LStep, spare: &mut Spare) -> Option<Event> {

@@ -1,0 +1,6 @@
+use Rattle.std.proofs.Common.{ap, ◌∙◌}
+use Rattle.pair_matcher.proofs.Translating.{finish_is}
+use Rattle.pair_matcher.proofs.idrup.IdrupSide.finish.Goals as goal
+
+pub returns : goal.returns
+returns c = finish_is c.args.self.now c.phase.result c.end_rule.result (c.phase.ensures ∙ ap (λ z. z.events.phase) c.self.view_is) c.end_rule.ensures

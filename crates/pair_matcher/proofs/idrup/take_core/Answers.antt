@@ -1,0 +1,10 @@
+use Rattle.std.proofs.Common.{◌∙◌, ap, refl}
+use Rattle.session_rules.specs.declared.Event.TheVariants as events
+use Rattle.session_rules.specs.declared.Step.TheVariants as steps
+use Rattle.pair_matcher.proofs.Translating.{found_through}
+use Rattle.pair_matcher.proofs.idrup.take_core.Goals as goal
+
+pub returns-in-Ok-true-clause-judged : goal.returns-in-Ok-true-clause-judged
+returns-in-Ok-true-clause-judged c = found_through c.args.numbers.now.vars c.find.new.self.vars c.lits.result.now c.args.u.now _ _ (λ z. steps.Event (events.Core z)) (steps.Event (events.Core c.args.u.now)) c.dense.result.now _ c.shown_answer.result _
+    c.find.ensures.vars c.in-Ok-true.ensures.known c.in-Ok-true.field-0-test (c.lits.ensures ∙ c.in-Ok-true.ensures.lits c.in-Ok-true.field-0-test) (λ v. refl) refl
+    c.judge_core-answer.ensures.judged c.shown_answer.ensures c.dense.ensures

@@ -1,0 +1,9 @@
+use Rattle.std.proofs.Common.{◌∙◌, ap, refl}
+use Rattle.session_rules.specs.declared.Event.TheVariants as events
+use Rattle.session_rules.specs.declared.Step.TheVariants as steps
+use Rattle.pair_matcher.proofs.Translating.{judged_through}
+use Rattle.pair_matcher.proofs.idrup.take_query.Goals as goal
+
+pub returns-in-Ok-clause-judged : goal.returns-in-Ok-clause-judged
+returns-in-Ok-clause-judged c = judged_through c.args.numbers.now.vars c.number.new.numbers.vars c.number.ensures.continues _ _ _ _ _ _ _ _ _ _ _ c.dense.result.now _ c.shown_answer.result
+    c.number.ensures.stands c.in_ok-number.ensures.known (ap (λ z. steps.Event (events.Query z)) (c.lits.ensures ∙ c.in_ok-number.ensures.lits)) c.in-Ok.ensures.judged c.shown_answer.ensures c.dense.ensures

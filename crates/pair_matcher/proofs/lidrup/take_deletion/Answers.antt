@@ -1,0 +1,8 @@
+use Rattle.std.proofs.Common.{refl}
+use Rattle.pair_matcher.proofs.Translating.{continues-same}
+use Rattle.pair_matcher.proofs.TranslatingIds.{judged_through}
+use Rattle.pair_matcher.proofs.lidrup.take_deletion.Goals as goal
+
+pub returns-clause-judged : goal.returns-clause-judged
+returns-clause-judged c = judged_through c.args.numbers.now.vars c.args.numbers.now.vars (continues-same c.args.numbers.now.vars c.args.numbers.now.vars refl) _ _ _ _ _ _ _ _ c.dense.result.now _ c.shown_answer.result
+    (λ ps h. h) refl refl c.judge_deletion-answer.ensures.judged c.shown_answer.ensures c.dense.ensures
