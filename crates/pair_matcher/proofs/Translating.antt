@@ -1,14 +1,13 @@
 -- What the judgement of the file's steps by their translations rests on.
 use Rattle.std.proofs.Common.{◌≡◌, ℕ, ◌+◌, ◌<◌, Bool, true, false, List, [], ◌∷◌, ◌++◌, map, length, get_or, Option, Some, None, option_map, Result, Ok, Err, refl, sym, ap, ◌∙◌, subst, append-nil, arith}
-use Rattle.std.specs.Prelude.{OnOk, IfOk, IfNone, slice_get, All, IsTrue}
-use Rattle.std.specs.List.{list_all}
+use Rattle.std.specs.Prelude.{OnOk, IfOk, IfNone, slice_get}
 use Rattle.std.specs.declared.alloc.AllocError.{AllocError}
 use Rattle.std.proofs.Math.Seq.{get_or-append_seam}
-use Rattle.std.proofs.lemmas.Bool.{and_parts, and_from}
+use Rattle.std.proofs.lemmas.Bool.{and_from}
 use Rattle.std.proofs.lemmas.List.{map-append, length-append, length-map}
 use Rattle.std.proofs.lemmas.Option.{same_Some}
 use Rattle.std.proofs.lemmas.List.Folds.{list_all-append}
-use Rattle.lits.specs.Numbering.{is_known, are_known, dense_lit, dense_lits, with_lits}
+use Rattle.lits.specs.Numbering.{are_known, dense_lit, dense_lits, with_lits}
 use Rattle.lits.proofs.Translated.{are_known-with_lits, are_known-append}
 use Rattle.numbered_lits.specs.Numbers.{Continues, known_front}
 use Rattle.numbered_lits.proofs.Lists.{StandsBehind, front-split}
@@ -20,12 +19,12 @@ use Rattle.session_rules.specs.declared.Rule.{Rule}
 use Rattle.session_rules.specs.declared.Rule.TheVariants as rules
 use Rattle.session_rules.specs.History.{assumed, phase, inputs, fits_phase, first_missing, broken_at, broken_unless, order_faults, core_faults}
 use Rattle.session_rules.specs.Logic.{closes}
-use Rattle.session_rules.specs.Own.{event_of, events_of, own_faults, active_clauses}
-use Rattle.session_events.specs.State.{State, StandsFor, start, behind, kind_of, order_rules, core_rules}
+use Rattle.session_rules.specs.Own.{events_of, own_faults, active_clauses}
+use Rattle.session_events.specs.State.{State, StandsFor, start, behind, kind_of, order_rules}
 use Rattle.session_events.proofs.Standing.{stands_behind}
 use Rattle.side_laws.specs.ClauseStates.{Clauses, ChangesAt}
-use Rattle.side_laws.specs.Sets.{named_id, kept_at}
-use Rattle.numbering_laws.specs.Dense.{dense_event, dense_step, dense_steps, is_known_step, are_known_steps, dense_rule, file_rule}
+use Rattle.side_laws.specs.Sets.{kept_at}
+use Rattle.numbering_laws.specs.Dense.{dense_step, dense_steps, is_known_step, are_known_steps, dense_rule, file_rule}
 use Rattle.numbering_laws.proofs.Events.{missing-dense, assumed-dense, assumed-known, order-dense, phase-dense}
 use Rattle.numbering_laws.proofs.Faults.{events_of-dense, events-known}
 use Rattle.numbering_laws.proofs.Given.{named-dense}

@@ -1,5 +1,5 @@
 -- What the judgement of the file's steps with ids by their translations rests on.
-use Rattle.std.proofs.Common.{◌≡◌, ℕ, Bool, true, false, not, filter, if◌then◌else◌, List, [], ◌∷◌, ◌++◌, map, Option, Some, None, option_map, Result, Ok, Err, refl, sym, ap, ◌∙◌, subst, inl, inr}
+use Rattle.std.proofs.Common.{◌≡◌, ℕ, Bool, true, false, if◌then◌else◌, List, [], ◌∷◌, ◌++◌, Option, Some, None, option_map, Result, Ok, Err, refl, sym, ap, ◌∙◌, subst, inl, inr}
 use Rattle.std.specs.Prelude.{IfOk, IfNone, slice_get}
 use Rattle.std.specs.declared.alloc.AllocError.{AllocError}
 use Rattle.std.specs.FinMap as finmap
@@ -18,7 +18,7 @@ use Rattle.session_rules.specs.declared.Rule.TheVariants as rules
 use Rattle.session_rules.specs.declared.Phase.{Phase}
 use Rattle.session_rules.specs.Pair.{is_idle}
 use Rattle.session_rules.specs.Logic.{hints_fail}
-use Rattle.session_rules.specs.History.{assumed, phase, fits_phase, first_missing, broken_at, broken_unless, order_faults, core_faults}
+use Rattle.session_rules.specs.History.{assumed, phase, fits_phase, first_missing, broken_unless, order_faults, core_faults}
 use Rattle.session_rules.specs.Own.{id_event_of, id_events_of, active_clause, hint_faults, own_id_faults}
 use Rattle.clause_store.specs.Clauses.{Store}
 use Rattle.hint_check.specs.Hints.{active_at, end_of}
@@ -26,7 +26,7 @@ use Rattle.hint_check.specs.declared.HintEnd.{HintEnd}
 use Rattle.hint_check.specs.declared.HintEnd.TheVariants.{Closed, Fails}
 use Rattle.session_events.specs.State.{State, StandsFor, start, behind, kind_of, order_rules}
 use Rattle.side_laws.specs.ClauseStates.{Clauses, clauses_of_store}
-use Rattle.numbering_laws.specs.Dense.{dense_event, dense_id_step, dense_id_steps, is_known_id_step, are_known_id_steps, known_of, unknown_of, file_rule}
+use Rattle.numbering_laws.specs.Dense.{dense_id_step, dense_id_steps, is_known_id_step, are_known_id_steps, known_of, unknown_of, file_rule}
 use Rattle.numbering_laws.proofs.Events.{assumed-dense, assumed-known, order-dense, phase-dense}
 use Rattle.numbering_laws.proofs.IdFaults.{id_events-dense, id_events-known, active_clause-dense, active_clause-known}
 use Rattle.numbering_laws.proofs.Growing.{id_steps-stay, ids-known-stay}
@@ -38,7 +38,7 @@ use Rattle.pair_matcher.specs.Inside.{IsReadyForIds}
 use Rattle.pair_matcher.proofs.Rules.{first-skip, first-here, first-broken, order_is}
 use Rattle.pair_matcher.proofs.Insides.{inside-new, stands-new}
 use Rattle.pair_matcher.proofs.Judging.{judged-after, events-some, events-none, closed_is, fails_is, run_is}
-use Rattle.pair_matcher.proofs.Translating.{first-mapped, continues-same, known-more, order-same, said_by, said_for}
+use Rattle.pair_matcher.proofs.Translating.{first-mapped, known-more, order-same, said_by, said_for}
 use Rattle.session_events.proofs.Standing.{stands_behind}
 
 -- ---- A step that was judged by its translation

@@ -480,6 +480,76 @@ const AT_THE_LIMIT: [Pair; 3] = [
     },
 ];
 
+// Pairs with few variables, of which some are high, and with some that come in no clause.
+const HIGH: [Pair; 11] = [
+    Pair {
+        shows: "high variables, without ids",
+        interaction: "p icnf / i 1 16777215 0 / i -1 16777215 0 / q -16777215 8388608 0 / s UNSATISFIABLE / u -16777215 0",
+        proof: "p idrup / i 1 16777215 0 / i -1 16777215 0 / l 16777215 0 / q -16777215 8388608 0 / s UNSATISFIABLE / u -16777215 0",
+        report: "accepted 1 queries",
+    },
+    Pair {
+        shows: "high variables, with ids",
+        interaction: "p icnf / i 1 16777215 0 / i -1 16777215 0 / q -16777215 8388608 0 / s UNSATISFIABLE / u -16777215 0",
+        proof: "p lidrup / i 1 1 16777215 0 / i 2 -1 16777215 0 / l 3 16777215 0 1 2 0 / q -16777215 8388608 0 / s UNSATISFIABLE / u -16777215 0 3 0",
+        report: "accepted 1 queries",
+    },
+    Pair {
+        shows: "a model over high variables",
+        interaction: "p icnf / i 1 16777215 0 / q 8388608 0 / s SATISFIABLE / m 16777215 0",
+        proof: "p idrup / i 1 16777215 0 / q 8388608 0 / s SATISFIABLE / m 16777215 8388608 16777214 0",
+        report: "accepted 1 queries",
+    },
+    Pair {
+        shows: "a model's clash is told by its variable",
+        interaction: "p icnf / i 1 16777215 0 / q 0 / s SATISFIABLE / m 16777215 0",
+        proof: "p idrup / i 1 16777215 0 / q 0 / s SATISFIABLE / m 16777215 -16777215 0",
+        report: "refused proof 5 ModelClash -16777215",
+    },
+    Pair {
+        shows: "a model of the interaction has a variable that no line of the proof has",
+        interaction: "p icnf / i 1 16777215 0 / q 0 / s SATISFIABLE / m 16777215 12345678 0",
+        proof: "p idrup / i 1 16777215 0 / q 0 / s SATISFIABLE / m 16777215 0",
+        report: "refused interaction 5 ModelPart 12345678",
+    },
+    Pair {
+        shows: "a stranger is told by its variable",
+        interaction: "p icnf / i 1 16777215 0 / i -1 16777215 0 / q -16777215 8388608 0 / s UNSATISFIABLE / u -16777215 0",
+        proof: "p idrup / i 1 16777215 0 / i -1 16777215 0 / q -16777215 8388608 0 / s UNSATISFIABLE / u -16777215 -8388608 12345678 0",
+        report: "refused proof 6 CoreStranger -8388608",
+    },
+    Pair {
+        shows: "a stranger that no line has",
+        interaction: "p icnf / i 1 16777215 0 / i -1 16777215 0 / q -16777215 8388608 0 / s UNSATISFIABLE / u -16777215 0",
+        proof: "p idrup / i 1 16777215 0 / i -1 16777215 0 / q -16777215 8388608 0 / s UNSATISFIABLE / u -16777215 12345678 -8388608 0",
+        report: "refused proof 6 CoreStranger 12345678",
+    },
+    Pair {
+        shows: "opposite literals that no line has close, with ids",
+        interaction: "p icnf / i 1 16777215 0 / q 8388608 0 / s UNSATISFIABLE / u 8388608 0",
+        proof: "p lidrup / i 1 1 16777215 0 / q 8388608 0 / s UNSATISFIABLE / u 8388608 12345678 -12345678 0 1 0",
+        report: "refused proof 5 CoreStranger 12345678",
+    },
+    Pair {
+        shows: "a literal that no line has helps no hint",
+        interaction: "p icnf / i 1 16777215 0 / q 8388608 0 / s UNSATISFIABLE / u 8388608 0",
+        proof: "p lidrup / i 1 1 16777215 0 / q 8388608 0 / s UNSATISFIABLE / u 8388608 12345678 0 1 0",
+        report: "refused proof 5 Hint 1",
+    },
+    Pair {
+        shows: "a deletion of a clause that no line can have given",
+        interaction: "p icnf / i 1 16777215 0",
+        proof: "p idrup / i 1 16777215 0 / d 16777215 12345678 0",
+        report: "refused proof 3 NotActive 1",
+    },
+    Pair {
+        shows: "a restoring of such a clause",
+        interaction: "p icnf / i 1 16777215 0",
+        proof: "p idrup / i 1 16777215 0 / r 12345678 0",
+        report: "refused proof 3 NotWeakened 1",
+    },
+];
+
 /// Checks one pair in pieces of this size, and says whether status and report are those.
 pub(crate) fn is_told(
     alloc: Global,
@@ -588,6 +658,15 @@ fn sessions_are_judged(rt: HostRuntime) -> Result<(), Fail> {
 fn variables_end_at_the_limit(rt: HostRuntime) -> Result<(), Fail> {
     assert_eq!(rt;
         first_told_otherwise(rt.alloc(), &AT_THE_LIMIT, &[1])?,
+        None
+    );
+    Ok(())
+}
+
+#[test]
+fn high_variables_are_judged(rt: HostRuntime) -> Result<(), Fail> {
+    assert_eq!(rt;
+        first_told_otherwise(rt.alloc(), &HIGH, &[1, 65_536])?,
         None
     );
     Ok(())

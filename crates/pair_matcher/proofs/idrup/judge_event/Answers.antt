@@ -1,5 +1,3 @@
-use Rattle.std.proofs.Common.{◌∙◌, ap, refl}
-use Rattle.session_rules.specs.declared.Event.TheVariants as events
 use Rattle.session_rules.specs.declared.Step.TheVariants as steps
 use Rattle.std.proofs.Common.{subst, sym, Some}
 use Rattle.session_rules.specs.declared.Rule.TheVariants as rules

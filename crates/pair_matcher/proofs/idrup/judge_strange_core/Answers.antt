@@ -1,6 +1,3 @@
-use Rattle.std.proofs.Common.{◌∙◌, ap, refl}
-use Rattle.session_rules.specs.declared.Event.TheVariants as events
-use Rattle.session_rules.specs.declared.Step.TheVariants as steps
 use Rattle.pair_matcher.proofs.Translating.{strange_order, strange_done}
 use Rattle.pair_matcher.proofs.idrup.judge_strange_core.Goals as goal
 

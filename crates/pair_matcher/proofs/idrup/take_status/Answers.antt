@@ -1,7 +1,4 @@
-use Rattle.std.proofs.Common.{◌∙◌, ap, refl}
-use Rattle.session_rules.specs.declared.Event.TheVariants as events
-use Rattle.session_rules.specs.declared.Step.TheVariants as steps
-use Rattle.std.proofs.Common.{sym, append-nil}
+use Rattle.std.proofs.Common.{refl}
 use Rattle.pair_matcher.proofs.Translating.{judged_through, continues-same}
 use Rattle.pair_matcher.proofs.idrup.take_status.Goals as goal
 

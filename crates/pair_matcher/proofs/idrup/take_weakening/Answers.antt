@@ -1,5 +1,4 @@
 use Rattle.std.proofs.Common.{◌∙◌, ap, refl}
-use Rattle.session_rules.specs.declared.Event.TheVariants as events
 use Rattle.session_rules.specs.declared.Step.TheVariants as steps
 use Rattle.session_rules.specs.declared.Rule.TheVariants as rules
 use Rattle.numbering_laws.proofs.Faults.{unknown-weaken}

@@ -1,4 +1,4 @@
-use Rattle.std.proofs.Common.{◌∙◌, ap, refl}
+use Rattle.std.proofs.Common.{◌∙◌, ap}
 use Rattle.session_rules.specs.declared.LStep.TheVariants as lsteps
 use Rattle.pair_matcher.proofs.TranslatingIds.{judged_through}
 use Rattle.pair_matcher.proofs.lidrup.take_query.Goals as goal
