@@ -7,6 +7,7 @@
 //! The calls themselves aren't here yet.
 #![tactic(auto)]
 
+mod asked;
 mod eligible;
 mod known;
 mod laws;
@@ -14,6 +15,7 @@ mod pairs;
 #[cfg(test)]
 mod tests;
 
+pub use asked::would_be_eligible;
 pub use eligible::{is_eligible, is_eligible_on};
 pub use known::is_known;
 pub use laws::{
