@@ -5,3 +5,5 @@ pub mod Knowing
 pub mod Deciding
 pub mod Seen
 mod Examples
+pub mod Marked
+pub mod Boarding

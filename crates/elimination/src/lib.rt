@@ -8,7 +8,9 @@
 #![tactic(auto)]
 
 mod asked;
+mod board;
 mod eligible;
+mod id_set;
 mod known;
 mod laws;
 mod pairs;
@@ -16,6 +18,7 @@ mod pairs;
 mod tests;
 
 pub use asked::would_be_eligible;
+pub use board::Board;
 pub use eligible::{is_eligible, is_eligible_on};
 pub use known::is_known;
 pub use laws::{

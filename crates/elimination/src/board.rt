@@ -1,0 +1,90 @@
+// The board between two calls: clauses, stack, inputs and the next id.
+ghost use Rattle.std.specs.Prelude.{◌≡◌, ℕ, ◌<◌, ◌≤◌, max, OnOk, OnErr};
+ghost use Rattle.elimination.specs.Boards.{IsBoard, no_board, with_reserved, eligible_on};
+
+use crate::asked::would_be_eligible;
+use crate::id_set::IdSet;
+use lits::{Lit, MAX_VAR};
+use occurrence_lists::Occurrences;
+use propagation::Engine;
+use restore::Stack;
+use session_events::ClauseList;
+use session_rules::Id;
+use std::alloc::{AllocError, Global};
+use std::marker::Model;
+
+/// The state of a solver between queries. Contracts see the engine, the ids of the irredundant clauses, the stack of eliminated
+/// variables, the inputs as they were given, and the next id.
+#[derive(Drop)]
+pub struct Board {
+    engine: Engine,
+    irredundant: IdSet,
+    // for each literal the irredundant clauses that hold it
+    occurrences: Occurrences,
+    stack: Stack,
+    inputs: ClauseList,
+    next_id: Id,
+}
+
+impl Model for Board {
+    ghost use Rattle.elimination.specs.Boards.{BoardView, board_code};
+    ghost use Rattle.elimination.specs.Inside.{IsBoardInside};
+
+    ghost Value = { BoardView };
+
+    ghost coded = { board_code };
+
+    ghost view = { λ b. record { engine = b.engine; irredundant = b.irredundant; stack = b.stack; inputs = b.inputs; next_id = b.next_id } };
+
+    ghost invariant = { λ b. IsBoardInside (record { engine = b.engine; irredundant = b.irredundant; stack = b.stack; inputs = b.inputs; next_id = b.next_id }) b.occurrences };
+}
+
+impl Board {
+    /// No clause, no reserved variable, and the first id is 1. It takes no memory.
+    pub fn new(alloc: Global) -> Board
+        ensures { result ≡ no_board }
+    {
+        Board {
+            engine: Engine::new(alloc),
+            irredundant: IdSet::new(alloc),
+            occurrences: Occurrences::new(alloc),
+            stack: Stack::new(alloc),
+            inputs: ClauseList::new(alloc),
+            next_id: 1,
+        }
+    }
+
+    /// Reserves the variables up to this one.
+    ///
+    /// `AllocError` means out of memory, and then nothing is changed.
+    pub fn reserve(&mut self, vars: u32) -> Result<(), AllocError>
+        requires { vars ≤ MAX_VAR }
+        ensures ok { OnOk result (self.new ≡ with_reserved self.old (max self.old.engine.vars vars)) }
+        ensures err { OnErr result (self.new ≡ self.old) }
+    {
+        self.occurrences.reserve(vars)?;
+        self.engine.reserve(vars)
+    }
+
+    /// The id that the next clause takes.
+    pub fn next_id(&self) -> Id
+        ensures value { result ≡ self.now.next_id }
+        ensures sound { IsBoard self.now }
+    {
+        self.next_id
+    }
+
+    /// Whether a variable is eligible for elimination: it is neither frozen nor assigned, some irredundant clause has it, at
+    /// most ten hold it and at most ten its negation, and it has few enough resolvents. It takes no memory.
+    pub fn eligible(&self, var: u32, frozen: &[Lit]) -> bool
+        ensures { result ≡ eligible_on self.now frozen.now var }
+    {
+        if var == 0 {
+            return false;
+        }
+        if var > self.engine.vars() {
+            return false;
+        }
+        would_be_eligible(&self.engine, &self.occurrences, var, frozen)
+    }
+}
