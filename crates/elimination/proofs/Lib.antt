@@ -7,3 +7,5 @@ pub mod Seen
 mod Examples
 pub mod Marked
 pub mod Boarding
+pub mod Listed
+pub mod Admitting

@@ -1,5 +1,8 @@
 -- What a board is inside: the ids of its irredundant clauses as marks, and the lists of their literals.
 use Rattle.std.specs.Prelude.{◌≡◌, ℕ, ◌+◌, ◌*◌, ◌≤◌, Bool, true, false, List, [], ◌∷◌, ◌++◌, length}
+use Rattle.lits.specs.Clause.{is_tautology, set_of}
+use Rattle.propagation.specs.Engine.{EngineView, with_added}
+use Rattle.occurrence_lists.specs.Occurring.{IsAdded}
 use Rattle.elimination.specs.Boards.{BoardView, IsBoard}
 use Rattle.elimination.specs.Known.{AreListedBy}
 
@@ -21,3 +24,16 @@ pub record IsBoardInside (b : BoardView) (rows : List (List ℕ)) : Type 0 where
   pub board : IsBoard b
   pub listed : AreListedBy b.engine.clauses rows b.irredundant
   pub wide : 2 * b.engine.vars ≤ length rows
+
+-- an id was put among the others and into the lists of the clause's literals, unless it is a tautology
+abbrev pub IsListed : Bool → ℕ → List ℕ → List ℕ → List (List ℕ) → List ℕ → List (List ℕ) → Type 0
+IsListed true id c ids rows new_ids new_rows = (new_ids ≡ ids) × (new_rows ≡ rows)
+IsListed false id c ids rows new_ids new_rows = IsInserted ids id new_ids × IsAdded rows id c new_rows
+
+-- an input was added to the parts of a board under an id
+pub record IsAdmission (e : EngineView) (ids : List ℕ) (rows : List (List ℕ)) (inputs : List (List ℕ)) (id : ℕ) (c : List ℕ)
+    (new_e : EngineView) (new_ids : List ℕ) (new_rows : List (List ℕ)) (new_inputs : List (List ℕ)) : Type 0 where
+  pub slot : ℕ
+  pub engine : new_e ≡ with_added e id c slot
+  pub listed : IsListed (is_tautology c) id (set_of c) ids rows new_ids new_rows
+  pub pushed : new_inputs ≡ inputs ++ c ∷ []

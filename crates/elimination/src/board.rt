@@ -1,9 +1,14 @@
 // The board between two calls: clauses, stack, inputs and the next id.
-ghost use Rattle.std.specs.Prelude.{◌≡◌, ℕ, ◌<◌, ◌≤◌, max, OnOk, OnErr};
+ghost use Rattle.std.specs.Prelude.{◌≡◌, ℕ, ◌<◌, ◌≤◌, ◌^◌, false, max, Contains, IfOk, OnOk, OnErr};
+ghost use Rattle.lits.specs.Literal.{var};
+ghost use Rattle.propagation.specs.Engine.{HasRoomFor};
+ghost use Rattle.restore.specs.Stack.{has_entry};
+ghost use Rattle.elimination.specs.Calls.{IsAdmitted};
 ghost use Rattle.elimination.specs.Boards.{IsBoard, no_board, with_reserved, eligible_on};
 
 use crate::asked::would_be_eligible;
 use crate::id_set::IdSet;
+use crate::listing::add_input;
 use lits::{Lit, MAX_VAR};
 use occurrence_lists::Occurrences;
 use propagation::Engine;
@@ -24,6 +29,7 @@ pub struct Board {
     stack: Stack,
     inputs: ClauseList,
     next_id: Id,
+    alloc: Global,
 }
 
 impl Model for Board {
@@ -51,6 +57,7 @@ impl Board {
             stack: Stack::new(alloc),
             inputs: ClauseList::new(alloc),
             next_id: 1,
+            alloc,
         }
     }
 
@@ -72,6 +79,38 @@ impl Board {
         ensures sound { IsBoard self.now }
     {
         self.next_id
+    }
+
+    /// Adds an input as a clause with the next id, and answers this id. The clause is irredundant, unless it is a tautology. Its
+    /// variables are reserved, and none of them has an entry in the stack.
+    ///
+    /// `AllocError` means out of memory; the board is given up then, and left as a new one.
+    pub fn admit(&mut self, lits: &[Lit]) -> Result<Id, AllocError>
+        requires reserved { HasRoomFor self.old.engine lits.now }
+        requires present { (l : ℕ) → Contains lits.now l → has_entry self.old.stack (var l) ≡ false }
+        requires limit { self.old.next_id < 2 ^ 63 }
+        ensures id { IfOk result (λ id. id ≡ self.old.next_id) }
+        ensures admitted { OnOk result (IsAdmitted self.old lits.now self.new) }
+        ensures given_up { OnErr result (self.new ≡ no_board) }
+    {
+        let id = self.next_id;
+        let alloc = self.alloc;
+        let added = add_input(
+            &mut self.engine,
+            &mut self.irredundant,
+            &mut self.occurrences,
+            &mut self.inputs,
+            alloc,
+            id,
+            lits,
+        );
+        if added.is_err() {
+            *self = Board::new(alloc);
+            return Err(AllocError);
+        }
+        let _ = self.engine.level();
+        self.next_id = id + 1;
+        Ok(id)
     }
 
     /// Whether a variable is eligible for elimination: it is neither frozen nor assigned, some irredundant clause has it, at

@@ -13,6 +13,7 @@ mod eligible;
 mod id_set;
 mod known;
 mod laws;
+mod listing;
 mod pairs;
 #[cfg(test)]
 mod tests;
