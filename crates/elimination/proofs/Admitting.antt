@@ -323,6 +323,7 @@ module _ (b : BoardView) (rows : List (List ℕ)) (h : IsBoardInside b rows) (c 
           whole = λ id w. s.whole id (weakened_before id w);
           gone = gone_still;
           single = s.single;
+          positive = s.positive;
           reserved = s.reserved;
           ids = ids_below;
           first_id = let f = s.first_id in omega (arith, f);

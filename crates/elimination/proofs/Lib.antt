@@ -9,3 +9,4 @@ pub mod Marked
 pub mod Boarding
 pub mod Listed
 pub mod Admitting
+pub mod Modelling

@@ -82,6 +82,7 @@ pub record IsSearched (b : BoardView) : Type 0 where
   -- no active clause but a tautology has a variable of an entry
   pub gone : (e : Elim) (id : ℕ) (c : List ℕ) → Contains b.stack e → active_at b.engine.clauses id ≡ Some c → has_variable e.var c ≡ true → is_tautology c ≡ true
   pub single : IsDistinct nat_eq (map (λ (e : Elim). e.var) b.stack)
+  pub positive : (e : Elim) → Contains b.stack e → 0 < e.var
   pub reserved : (e : Elim) → Contains b.stack e → e.var ≤ b.engine.vars
   pub ids : (id : ℕ) → finmap.contains_key b.engine.clauses id ≡ true → id < b.next_id
   pub first_id : 0 < b.next_id

@@ -1,10 +1,12 @@
 // The board between two calls: clauses, stack, inputs and the next id.
-ghost use Rattle.std.specs.Prelude.{◌≡◌, ℕ, ◌<◌, ◌≤◌, ◌^◌, false, max, Contains, IfOk, OnOk, OnErr};
+ghost use Rattle.std.specs.Prelude.{◌≡◌, ℕ, ◌<◌, ◌≤◌, ◌^◌, ◌++◌, true, false, max, Contains, IfOk, OnOk, OnErr};
 ghost use Rattle.lits.specs.Literal.{var};
 ghost use Rattle.propagation.specs.Engine.{HasRoomFor};
-ghost use Rattle.restore.specs.Stack.{has_entry};
+ghost use Rattle.session_rules.specs.Logic.{satisfies_formula};
+ghost use Rattle.restore.specs.Stack.{stacked, has_entry};
+ghost use Rattle.restore.specs.Values.{value, reserved};
 ghost use Rattle.elimination.specs.Calls.{IsAdmitted};
-ghost use Rattle.elimination.specs.Boards.{IsBoard, no_board, with_reserved, eligible_on};
+ghost use Rattle.elimination.specs.Boards.{IsBoard, no_board, with_reserved, irredundant_clauses, eligible_on};
 
 use crate::asked::would_be_eligible;
 use crate::id_set::IdSet;
@@ -12,7 +14,7 @@ use crate::listing::add_input;
 use lits::{Lit, MAX_VAR};
 use occurrence_lists::Occurrences;
 use propagation::Engine;
-use restore::Stack;
+use restore::{Stack, Values};
 use session_events::ClauseList;
 use session_rules::Id;
 use std::alloc::{AllocError, Global};
@@ -111,6 +113,20 @@ impl Board {
         let _ = self.engine.level();
         self.next_id = id + 1;
         Ok(id)
+    }
+
+    /// Extends values that satisfy the irredundant clauses over the stack: they satisfy the irredundant clauses, those of each
+    /// entry and each input then. Each variable without an entry keeps its value. Each variable that is reserved in the board is
+    /// reserved in the values. It takes no memory.
+    pub fn model(&self, values: &mut Values)
+        requires room { self.now.engine.vars ≤ reserved values.old }
+        requires satisfied { satisfies_formula (value values.old) (irredundant_clauses self.now) ≡ true }
+        ensures satisfied { satisfies_formula (value values.new) (stacked self.now.stack ++ irredundant_clauses self.now) ≡ true }
+        ensures inputs { satisfies_formula (value values.new) self.now.inputs ≡ true }
+        ensures outside { (x : ℕ) → has_entry self.now.stack x ≡ false → value values.new x ≡ value values.old x }
+        ensures reserved { reserved values.new ≡ reserved values.old }
+    {
+        self.stack.extend(values);
     }
 
     /// Whether a variable is eligible for elimination: it is neither frozen nor assigned, some irredundant clause has it, at
