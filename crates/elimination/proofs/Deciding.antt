@@ -14,7 +14,7 @@ use Rattle.elimination_laws.specs.Eligible.{how_many, eligible, OftenAs}
 use Rattle.occurrence_lists.specs.Occurring.{row, StandsFor, Numbered, ids_with}
 use Rattle.occurrence_lists.proofs.Counting.{counts_from_times}
 use Rattle.occurrence_lists.proofs.Standing.{held_is_listed, listed_is_held, contained}
-use Rattle.elimination.specs.Pairs.{clauses_at, may_go, AreUsable}
+use Rattle.elimination.specs.Pairs.{clauses_at, may_go, AreClean}
 use Rattle.elimination.specs.Known.{numbered}
 use Rattle.elimination.proofs.Pairing.{own_clauses}
 
@@ -159,20 +159,20 @@ module _ (m : Store) (rows : List (List ℕ)) (ids : List ℕ) (s : StandsFor ro
   pub listed_negated : (x id : ℕ) → 0 < x → Contains (row rows (neg (of_var x))) id → holds_negated x (lits_at m id) ≡ true
   listed_negated x id z k = any_from (is_negated x) (lits_at m id) (neg (of_var x)) (has_at (lits_at m id) (neg (of_var x)) (listed_has (neg (of_var x)) id k)) (negated_of x z)
 
-  clean_one : (vars id : ℕ) → ((l : ℕ) → AreUsable m vars (row rows l)) → Contains ids id → (c : List ℕ) → c ≡ lits_at m id → is_tautology (lits_at m id) ≡ false
-  clean_one vars id u k [] e = ap is_tautology (sym e)
-  clean_one vars id u k (l ∷ c) e =
+  clean_one : (id : ℕ) → ((l : ℕ) → AreClean m (row rows l)) → Contains ids id → (c : List ℕ) → c ≡ lits_at m id → is_tautology (lits_at m id) ≡ false
+  clean_one id u k [] e = ap is_tautology (sym e)
+  clean_one id u k (l ∷ c) e =
       let h : has (lits_at m id) l ≡ true = subst (λ d. has d l ≡ true) e (has_from (l ∷ c) l (here l c)) in
       let n : Contains (numbered m ids) (id, lits_at m id) = map_from (λ i. (i, lits_at m i)) ids id k in
-      (u l id (contained id (row rows l) (held_is_listed rows (numbered m ids) (id, lits_at m id) l s n h))).no_tautology
+      u l id (contained id (row rows l) (held_is_listed rows (numbered m ids) (id, lits_at m id) l s n h))
 
   pub frozen_stays : (x : ℕ) (frozen assigned : List ℕ) → has_variable x frozen ≡ true → false ≡ eligible (clauses_at m ids) frozen assigned x
   unfolding eligible
   frozen_stays x frozen assigned h = rw h refl
 
-  pub decided : (vars x : ℕ) (frozen assigned : List ℕ) (b : Bool) → 0 < x → ((l : ℕ) → AreUsable m vars (row rows l)) → has_variable x frozen ≡ false → has_variable x assigned ≡ false
+  pub decided : (x : ℕ) (frozen assigned : List ℕ) (b : Bool) → 0 < x → ((l : ℕ) → AreClean m (row rows l)) → has_variable x frozen ≡ false → has_variable x assigned ≡ false
       → b ≡ may_go (clauses_at m (row rows (of_var x)) ++ clauses_at m (row rows (neg (of_var x)))) x → b ≡ eligible (clauses_at m ids) frozen assigned x
-  decided vars x frozen assigned b z u f a e =
-      let d = lists_decide m rows ids x z s (λ id k. clean_one vars id u k (lits_at m id) refl) frozen assigned in
+  decided x frozen assigned b z u f a e =
+      let d = lists_decide m rows ids x z s (λ id k. clean_one id u k (lits_at m id) refl) frozen assigned in
       e ∙ sym (d ∙ ap (λ t. (not t && not (has_variable x assigned)) && may_go (clauses_at m (row rows (of_var x)) ++ clauses_at m (row rows (neg (of_var x)))) x) f
       ∙ ap (λ t. (true && not t) && may_go (clauses_at m (row rows (of_var x)) ++ clauses_at m (row rows (neg (of_var x)))) x) a)

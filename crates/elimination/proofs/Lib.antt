@@ -5,3 +5,8 @@ pub mod Knowing
 pub mod Deciding
 pub mod Seen
 mod Examples
+pub mod Marked
+pub mod Boarding
+pub mod Listed
+pub mod Admitting
+pub mod Modelling

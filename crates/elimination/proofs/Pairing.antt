@@ -15,7 +15,7 @@ use Rattle.restore.specs.Resolution.{is_plain, is_negated, of_variable, has_vari
 use Rattle.restore.proofs.Joined.{append_at, map_at}
 use Rattle.elimination_laws.specs.Eligible.{how_many, most_holding, has_few_resolvents, eligible, OftenAs}
 use Rattle.elimination_laws.proofs.Deciding.{eligible-local}
-use Rattle.elimination.specs.Pairs.{clauses_at, found_with, found_pairs, may_go, AreUsable}
+use Rattle.elimination.specs.Pairs.{clauses_at, found_with, found_pairs, may_go, AreUsable, AreClean}
 
 -- ---- Filters
 
@@ -125,13 +125,16 @@ length-clauses : (m : Store) (ids : List ℕ) → length (clauses_at m ids) ≡ 
 length-clauses m [] = refl
 length-clauses m (id ∷ ids) = ap suc (length-clauses m ids)
 
-module _ (m : Store) (vars x : ℕ) (with_ids against : List ℕ) (usable : AreUsable m vars with_ids) (usable2 : AreUsable m vars against)
+pub are_clean : (m : Store) (vars : ℕ) (ids : List ℕ) → AreUsable m vars ids → AreClean m ids
+are_clean m vars ids u = λ id k. (u id k).no_tautology
+
+module _ (m : Store) (x : ℕ) (with_ids against : List ℕ) (clean : AreClean m with_ids) (clean2 : AreClean m against)
     (hold : (id : ℕ) → Contains with_ids id → holds x (lits_at m id) ≡ true) (hold_negation : (id : ℕ) → Contains against id → holds_negated x (lits_at m id) ≡ true) where
   with_it : (c : List ℕ) → Contains (clauses_at m with_ids) c → (holds x c ≡ true) × (is_tautology c ≡ false)
-  with_it c k = let r = map_at (lits_at m) with_ids c k in subst (λ z. (holds x z ≡ true) × (is_tautology z ≡ false)) r.2 (hold r.0 r.1, (usable r.0 r.1).no_tautology)
+  with_it c k = let r = map_at (lits_at m) with_ids c k in subst (λ z. (holds x z ≡ true) × (is_tautology z ≡ false)) r.2 (hold r.0 r.1, clean r.0 r.1)
 
   against_it : (c : List ℕ) → Contains (clauses_at m against) c → (holds_negated x c ≡ true) × (is_tautology c ≡ false)
-  against_it c k = let r = map_at (lits_at m) against c k in subst (λ z. (holds_negated x z ≡ true) × (is_tautology z ≡ false)) r.2 (hold_negation r.0 r.1, (usable2 r.0 r.1).no_tautology)
+  against_it c k = let r = map_at (lits_at m) against c k in subst (λ z. (holds_negated x z ≡ true) × (is_tautology z ≡ false)) r.2 (hold_negation r.0 r.1, clean2 r.0 r.1)
 
   most : how_many (has_variable x) (clauses_at m with_ids ++ clauses_at m against) ≡ length with_ids + length against
   most = all_have x (clauses_at m with_ids) (clauses_at m against) with_it against_it ∙ ap (λ z. z + length (clauses_at m against)) (length-clauses m with_ids) ∙ ap (λ z. length with_ids + z) (length-clauses m against)

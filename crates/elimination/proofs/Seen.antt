@@ -26,7 +26,7 @@ use Rattle.elimination.proofs.Deciding.{has_either}
 flips : (c a b : List ℕ) → same_set a b ≡ true → same_set c a ≡ same_set c b
 flips c a b h = same_tests _ _ (λ p. same_set-chain c a b p h) (λ p. same_set-chain c b a p (same_set-flip a b h))
 
-literals-active : (m : Clauses) (id : ℕ) (c : List ℕ) → active_at m id ≡ Some c → literals_at m id ≡ c
+pub literals-active : (m : Clauses) (id : ℕ) (c : List ℕ) → active_at m id ≡ Some c → literals_at m id ≡ c
 literals-active m id c h = by_entry (finmap.get m id) h
   where
     by_entry : (o : Option Clause) → option_and_then if_active o ≡ Some c → unwrap_or (option_map (λ (k : Clause). k.literals) o) [] ≡ c

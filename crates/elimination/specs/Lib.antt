@@ -3,3 +3,4 @@ pub mod Steps
 pub mod Calls
 pub mod Pairs
 pub mod Known
+pub mod Inside

@@ -30,3 +30,7 @@ AreUsable m vars ids = (id : ℕ) → Contains ids id → IsUsable m vars id
 -- what an eligible variable needs of clauses: some clause has it, few clauses have it, and it has few resolvents
 abbrev pub may_go : List (List ℕ) → ℕ → Bool
 may_go cs x = list_any (has_variable x) cs && (stands_in_few cs x && has_few_resolvents cs x)
+
+-- none of the active clauses of these ids is a tautology
+abbrev pub AreClean : Store → List ℕ → Type 0
+AreClean m ids = (id : ℕ) → Contains ids id → is_tautology (lits_at m id) ≡ false

@@ -18,7 +18,7 @@ use resolvents::Resolver;
 use std::alloc::AllocError;
 
 /// Whether one of these literals has the variable.
-fn is_frozen(frozen: &[Lit], var: u32) -> bool
+pub(crate) fn is_frozen(frozen: &[Lit], var: u32) -> bool
     ensures { result ≡ has_variable var frozen.now }
 {
     for l in frozen {

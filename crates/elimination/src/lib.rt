@@ -7,13 +7,19 @@
 //! The calls themselves aren't here yet.
 #![tactic(auto)]
 
+mod asked;
+mod board;
 mod eligible;
+mod id_set;
 mod known;
 mod laws;
+mod listing;
 mod pairs;
 #[cfg(test)]
 mod tests;
 
+pub use asked::would_be_eligible;
+pub use board::Board;
 pub use eligible::{is_eligible, is_eligible_on};
 pub use known::is_known;
 pub use laws::{

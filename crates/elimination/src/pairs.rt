@@ -23,7 +23,7 @@ pub(crate) fn lits_of(store: &Store, id: u64) -> &[Lit]
 }
 
 // So many clauses at most hold an eligible variable, and so many its negation.
-const MOST_HOLDING: usize = 10;
+pub(crate) const MOST_HOLDING: usize = 10;
 
 /// How many resolvents of the clause that is held with these are no tautologies.
 fn count_with(resolver: &Resolver, store: &Store, var: u32, ids: &[u64]) -> usize

@@ -12,7 +12,7 @@ use std::marker::Model;
 
 /// A list of clauses.
 #[derive(Drop)]
-pub(crate) struct ClauseList {
+pub struct ClauseList {
     literals: Vec<Lit>,
     ends: Vec<usize>,
 }
@@ -30,7 +30,7 @@ impl Model for ClauseList {
 
 impl ClauseList {
     /// The empty list.
-    pub(crate) fn new(alloc: Global) -> ClauseList
+    pub fn new(alloc: Global) -> ClauseList
         ensures { result ≡ [] }
     {
         ClauseList {
@@ -40,7 +40,7 @@ impl ClauseList {
     }
 
     /// Adds a clause at the end. An error leaves the list as it was.
-    pub(crate) fn push(&mut self, clause: &[Lit]) -> Result<(), AllocError>
+    pub fn push(&mut self, clause: &[Lit]) -> Result<(), AllocError>
         ensures ok { OnOk result (self.new ≡ self.old ++ clause.now ∷ []) }
         ensures err { OnErr result (self.new ≡ self.old) }
     {

@@ -18,7 +18,7 @@ mod rules;
 mod tests;
 mod ticks;
 
-use clause_list::ClauseList;
+pub use clause_list::ClauseList;
 pub use laws::{rules_are_faults, states_stand_for_events};
 use lits::Lit;
 use session_rules::{Event, Phase, Rule, StatusWord};

@@ -6,6 +6,7 @@ use Rattle.occurrence_lists.specs.Occurring.{row, StandsFor}
 use Rattle.elimination.specs.Pairs.{clauses_at, may_go, AreUsable}
 use Rattle.elimination.specs.Known.{numbered}
 use Rattle.elimination.proofs.Results.{more_ok}
+use Rattle.elimination.proofs.Pairing.{are_clean}
 use Rattle.elimination.proofs.Deciding.{frozen_stays, listed_holds, listed_negated, decided}
 use Rattle.elimination.proofs.eligible.is_eligible.Goals as goal
 
@@ -37,6 +38,6 @@ returns-clause-eligible c =
     more_ok c.may_go.result
     (λ b. b ≡ may_go (clauses_at m c.ids.result.now ++ clauses_at m c.ids-2.result.now) x)
     (λ b. (ids assigned : List ℕ) → StandsFor rows (numbered m ids) → has_variable x assigned ≡ false → b ≡ eligible (clauses_at m ids) c.args.frozen.now assigned x)
-    (λ b e. λ ids assigned s a. decided m rows ids s c.args.resolver.now.reserved x c.args.frozen.now assigned b c.requires.positive c.requires.usable f a
+    (λ b e. λ ids assigned s a. decided m rows ids s x c.args.frozen.now assigned b c.requires.positive (λ l. are_clean m c.args.resolver.now.reserved (row rows l) (c.requires.usable l)) f a
     (e ∙ ap (λ (z : List ℕ). may_go (clauses_at m z ++ clauses_at m c.ids-2.result.now) x) one ∙ ap (λ (z : List ℕ). may_go (clauses_at m (row rows (of_var x)) ++ clauses_at m z) x) two))
     c.may_go.ensures.goes

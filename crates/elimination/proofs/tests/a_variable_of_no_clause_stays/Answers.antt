@@ -12,3 +12,12 @@ is_eligible_on-requires-clause-stands g c = (
     active = λ id m. absurd (not_in_nil id m);
   },
 )
+
+pub would_be_eligible-requires-clause-stands : goal.would_be_eligible-requires-clause-stands
+would_be_eligible-requires-clause-stands g c = (
+  [],
+  record {
+    stands = subst (λ (z : List (List ℕ)). StandsFor z []) (sym (c.in_ok-reserve-2.ensures.ok ∙ ap (λ (z : List (List ℕ)). with_rows z 6) c.new-lists.ensures)) (grown [] [] 6 none);
+    active = λ id m. absurd (not_in_nil id m);
+  },
+)
