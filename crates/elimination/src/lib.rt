@@ -4,7 +4,7 @@
 //! were given, and the next id. Its calls tell each step to a log the moment they take it. What was told says all of what
 //! became of the clauses: replayed by ids on the clauses before, the steps give those after.
 //!
-//! The calls themselves aren't here yet.
+//! The calls that restore, simplify and search are still to come.
 #![tactic(auto)]
 
 mod asked;
