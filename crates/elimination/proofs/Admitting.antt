@@ -291,6 +291,7 @@ module _ (b : BoardView) (rows : List (List ℕ)) (h : IsBoardInside b rows) (c 
           weakened = weakened_old b.engine.clauses b.next_id a.slot c k.id ne ∙ w.weakened;
           same = w.same ∙ sym (literals_old b.engine.clauses b.next_id a.slot c k.id ne);
           once = w.once;
+          clean = w.clean;
         }
 
     gone_still : (e : Elim) (id : ℕ) (d : List ℕ) → Contains b.stack e → active_at m2 id ≡ Some d → has_variable e.var d ≡ true → is_tautology d ≡ true
@@ -323,6 +324,7 @@ module _ (b : BoardView) (rows : List (List ℕ)) (h : IsBoardInside b rows) (c 
           whole = λ id w. s.whole id (weakened_before id w);
           gone = gone_still;
           single = s.single;
+          apart = s.apart;
           positive = s.positive;
           reserved = s.reserved;
           ids = ids_below;

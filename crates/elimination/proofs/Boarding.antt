@@ -41,6 +41,7 @@ new_board = record {
       whole = λ id h. absurd (no_key id h);
       gone = λ e id c m a h. absurd (not_in_nil e m);
       single = tt;
+      apart = tt;
       positive = λ e m. absurd (not_in_nil e m);
       reserved = λ e m. absurd (not_in_nil e m);
       ids = λ id h. absurd (no_held id h);
@@ -86,6 +87,7 @@ more_vars b rows n le small room h = let s = h.board.searched in record {
       whole = s.whole;
       gone = s.gone;
       single = s.single;
+      apart = s.apart;
       positive = s.positive;
       reserved = λ e m. omega (arith, s.reserved e m, le);
       ids = s.ids;

@@ -1,5 +1,5 @@
 -- What callers see of a board, and what holds of every one.
-use Rattle.std.specs.Prelude.{◌≡◌, ℕ, ◌<◌, ◌≤◌, ◌^◌, Bool, true, false, nat_eq, List, [], ◌++◌, map, Contains, Some, refl}
+use Rattle.std.specs.Prelude.{◌≡◌, ℕ, ◌<◌, ◌≤◌, ◌^◌, Bool, true, false, nat_eq, List, [], ◌++◌, map, flat_map, Contains, Some, refl}
 use Rattle.std.specs.List.{IsDistinct}
 use Rattle.std.specs.FinMap as finmap
 use Rattle.std.specs.Coded.{Coded, code_by, coded×, coded_list, coded_ℕ}
@@ -59,11 +59,16 @@ with_reserved b vars = record { engine = with_vars b.engine vars; irredundant = 
 
 -- ---- What holds of every board
 
--- the clause of an entry is weakened, and its list has the literals of its set, each once
+-- the ids of all entries' clauses
+abbrev pub kept_ids : List Elim → List ℕ
+kept_ids es = map (λ (k : Kept). k.id) (flat_map (λ (e : Elim). e.clauses) es)
+
+-- the clause of an entry is weakened and no tautology, and its list has the literals of its set, each once
 pub record IsWeakenedCopy (m : Clauses) (k : Kept) : Type 0 where
   pub weakened : is_weakened m k.id ≡ true
   pub same : set_of k.lits ≡ literals_at m k.id
   pub once : IsOnce k.lits
+  pub clean : is_tautology k.lits ≡ false
 
 -- the irredundant clauses are active, different by id, and no tautologies
 pub record AreIrredundant (m : Clauses) (ids : List ℕ) : Type 0 where
@@ -82,6 +87,8 @@ pub record IsSearched (b : BoardView) : Type 0 where
   -- no active clause but a tautology has a variable of an entry
   pub gone : (e : Elim) (id : ℕ) (c : List ℕ) → Contains b.stack e → active_at b.engine.clauses id ≡ Some c → has_variable e.var c ≡ true → is_tautology c ≡ true
   pub single : IsDistinct nat_eq (map (λ (e : Elim). e.var) b.stack)
+  -- no clause stands in two entries, or twice in one
+  pub apart : IsDistinct nat_eq (kept_ids b.stack)
   pub positive : (e : Elim) → Contains b.stack e → 0 < e.var
   pub reserved : (e : Elim) → Contains b.stack e → e.var ≤ b.engine.vars
   pub ids : (id : ℕ) → finmap.contains_key b.engine.clauses id ≡ true → id < b.next_id

@@ -18,7 +18,7 @@ TakesEach {L} takes before (t ∷ ts) after = (mid : L) × takes before t mid ×
 
 -- the steps without ids
 abbrev pub steps_of : List Told → List Step
-steps_of ts = map (step_of finmap.empty) ts
+steps_of ts = map step_of ts
 
 -- ---- Clauses by id
 

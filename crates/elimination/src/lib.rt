@@ -4,7 +4,8 @@
 //! were given, and the next id. Its calls tell each step to a log the moment they take it. What was told says all of what
 //! became of the clauses: replayed by ids on the clauses before, the steps give those after.
 //!
-//! The calls that restore, simplify and search are still to come.
+//! So far a [`Board`] is made, takes inputs, says which variables are eligible and extends models. To restore what a line mentions
+//! and to eliminate variables isn't here yet.
 #![tactic(auto)]
 
 mod asked;

@@ -6,7 +6,7 @@ use Rattle.std.specs.Str.{all_ascii_digits}
 use Rattle.std.specs.Char.{is_ascii_digit}
 use Rattle.std.proofs.lemmas.List.Folds.{list_all-append}
 use Rattle.std.proofs.lemmas.Bool.{and_parts, and_from, cases_Bool, not-true}
-use Rattle.lits.specs.Literal.{IsFileLiteral, positive, var}
+use Rattle.lits.specs.Literal.{IsLiteral, positive, var}
 use Rattle.lits.specs.Word.{literal_text}
 use Rattle.lits.proofs.Words.{IsWord-decimal}
 use Rattle.session_rules.specs.declared.StatusWord.{StatusWord}
@@ -49,7 +49,7 @@ not_empty (b ∷ bs) h = refl
 decimal_plain : (n : ℕ) → 0 < n → n < 2 ^ 63 → is_plain_word (decimal n) ≡ true
 decimal_plain n pos small = let w = IsWord-decimal n pos small in and_from _ _ (not_empty (decimal n) w.nonempty) (digits_plain (decimal n) w.digits)
 
-literal_plain : (l : ℕ) → IsFileLiteral l → is_plain_word (literal_text l) ≡ true
+literal_plain : (l : ℕ) → IsLiteral l → is_plain_word (literal_text l) ≡ true
 literal_plain l small = elim (cases_Bool (positive l)) [
   | inl q ↦ rw q (decimal_plain (var l) (omega arith) (omega arith))
   | inr q ↦ rw q (let w = IsWord-decimal (var l) (omega arith) (omega arith) in and_from _ _ refl (digits_plain (decimal (var l)) w.digits))
@@ -57,7 +57,7 @@ literal_plain l small = elim (cases_Bool (positive l)) [
 
 literal_words_plain : (ls : List ℕ) → AreLiterals ls → list_all is_plain_word (literal_words ls) ≡ true
 literal_words_plain [] h = refl
-literal_words_plain (l ∷ ls) h = and_from _ _ (literal_plain l (All-first IsFileLiteral l ls h)) (literal_words_plain ls (All-more IsFileLiteral l ls h))
+literal_words_plain (l ∷ ls) h = and_from _ _ (literal_plain l (All-first IsLiteral l ls h)) (literal_words_plain ls (All-more IsLiteral l ls h))
 
 id_words_plain : (is : List ℕ) → AreIds is → list_all is_plain_word (id_words is) ≡ true
 id_words_plain [] h = refl

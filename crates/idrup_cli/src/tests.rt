@@ -175,7 +175,7 @@ fn each_ending_has_its_line(rt: HostRuntime) {
     let longest = Verdict::Refused {
         side: Side::Interaction,
         line: u64::MAX,
-        rule: Rule::ModelAssumption(lit(&rt, -16_777_215)),
+        rule: Rule::ModelAssumption(lit(&rt, -2_147_483_647)),
     };
     let most = Verdict::Accepted { queries: u64::MAX };
     let endings: [(Ending, u8, &[u8]); 7] = [
@@ -192,7 +192,7 @@ fn each_ending_has_its_line(rt: HostRuntime) {
         (
             Ending::Checked(longest),
             1,
-            b"refused interaction 18446744073709551615 ModelAssumption -16777215\n",
+            b"refused interaction 18446744073709551615 ModelAssumption -2147483647\n",
         ),
         (Ending::Usage, 2, USAGE),
         (Ending::ReadInteraction, 3, b"read fault interaction\n"),

@@ -7,7 +7,7 @@ use Rattle.std.proofs.Math.ListN.{drop_of_length-le}
 use Rattle.std.specs.Bool.{OnTrue}
 use Rattle.std.specs.declared.result.Result.{Result}
 use Rattle.lits.specs.declared.LitWord.TheVariants as literals
-use Rattle.lits.specs.Literal.{max_file_var}
+use Rattle.lits.specs.Literal.{max_var}
 use Rattle.lits.specs.Word.{literal_word, literal_of, signed, magnitude, starts_with_minus, is_zero, IsFront}
 use Rattle.lits.specs.declared.LitWord.{LitWord}
 use Rattle.session_rules.specs.declared.Rule.{Rule}
@@ -77,7 +77,7 @@ zero_word w h = by_test (is_zero w) refl h
   where
     by_size : (b : Bool) (o : Option ℕ) → literal_of b o ≡ literals.Zero → ⊥
     by_size b None h = cc h
-    by_size b (Some v) h = elim (cases_Bool (nat_le v max_file_var)) [
+    by_size b (Some v) h = elim (cases_Bool (nat_le v max_var)) [
       | inl q ↦ let f : literals.Value (signed b v) ≡ literals.Zero = rw q at h in cc f
       | inr q ↦ let f : literals.OutOfRange ≡ literals.Zero = rw q at h in cc f
     ]

@@ -4,7 +4,8 @@ use Rattle.std.proofs.lemmas.List.{append-nil, take_more, take-append-drop, drop
 use Rattle.std.proofs.lemmas.Grind.{flat_map-append}
 use Rattle.std.specs.List.{flat_map}
 use Rattle.lits.specs.Word.{literal_text}
-use Rattle.session_rules.specs.Spelling.{line_text}
+use Rattle.lits.specs.Numbering.{file_lit, file_lits}
+use Rattle.session_rules.specs.Spelling.{line_text, literal_words}
 use Rattle.line_writing.specs.declared.writing.Part.{Part}
 use Rattle.line_writing.specs.declared.writing.Part.TheVariants as parts
 use Rattle.line_writing.specs.Held.{list_text, part_text, parts_text, line_bytes}
@@ -23,10 +24,17 @@ spaced-list : {A : Type 0} (word : A → List ℕ) (xs : List A) → spaced (map
 spaced-list word [] = refl
 spaced-list word (x ∷ xs) = ap (λ (l : List ℕ). (32 ∷ word x) ++ l) (spaced-list word xs) ∙ sym (append_assoc (32 ∷ word x) (flat_map (λ x. 32 ∷ word x) xs) (codes " 0"))
 
+spaced-numbered : (vars ls : List ℕ) → spaced (literal_words (file_lits vars ls)) ≡ list_text (λ l. literal_text (file_lit vars l)) ls
+spaced-numbered vars [] = refl
+spaced-numbered vars (l ∷ ls) =
+    let word = λ (x : ℕ). literal_text (file_lit vars x) in
+    ap (λ (z : List ℕ). (32 ∷ word l) ++ z) (spaced-numbered vars ls) ∙ sym (append_assoc (32 ∷ word l) (flat_map (λ x. 32 ∷ word x) ls) (codes " 0"))
+
 spaced-part_words : (p : Part) → spaced (part_words p) ≡ part_text p
 spaced-part_words (parts.Word w) = append-nil (32 ∷ w.now)
 spaced-part_words (parts.Id id) = append-nil (32 ∷ decimal id)
 spaced-part_words (parts.Lits ls) = spaced-list literal_text ls.now
+spaced-part_words (parts.Numbered d ls) = spaced-numbered d.now ls.now
 spaced-part_words (parts.Ids is) = spaced-list decimal is.now
 
 line_text-spaced : (w : List ℕ) (ws : List (List ℕ)) → line_text (w ∷ ws) ≡ w ++ (spaced ws ++ 10 ∷ [])

@@ -2,6 +2,7 @@
 use Rattle.std.specs.Prelude.{◌≡◌, ℕ, ◌≤◌, Bool, List, [], ◌∷◌, ◌++◌, length, codes, decimal, Result, Ok, Err}
 use Rattle.std.specs.List.{flat_map}
 use Rattle.lits.specs.Word.{literal_text}
+use Rattle.lits.specs.Numbering.{file_lit}
 use Rattle.std.specs.Io.KnownBytes.{Appends}
 use Rattle.std.specs.declared.option.Option.{Option}
 use Rattle.outside.specs.Faults.{Rose}
@@ -19,6 +20,7 @@ abbrev pub part_text : Part → List ℕ
 part_text (parts.Word w) = 32 ∷ w.now
 part_text (parts.Id id) = 32 ∷ decimal id
 part_text (parts.Lits ls) = list_text literal_text ls.now
+part_text (parts.Numbered d ls) = list_text (λ l. literal_text (file_lit d.now l)) ls.now
 part_text (parts.Ids is) = list_text decimal is.now
 
 -- the texts of parts, one after the other

@@ -4,6 +4,7 @@ use Rattle.std.specs.Io.KnownBytes.{Appends}
 use Rattle.std.specs.declared.option.Option.{Option}
 use Rattle.outside.specs.Faults.{Rose}
 use Rattle.outside.specs.Streams.{AppendsPart, Reopened}
+use Rattle.lits.specs.Numbering.{file_lits}
 use Rattle.session_rules.specs.Spelling.{literal_words, id_words}
 use Rattle.session_rules.specs.declared.WriteFault.{WriteFault}
 use Rattle.session_rules.specs.declared.WriteFault.TheVariants as answers
@@ -15,6 +16,7 @@ abbrev pub part_words : Part → List (List ℕ)
 part_words (parts.Word w) = w.now ∷ []
 part_words (parts.Id id) = decimal id ∷ []
 part_words (parts.Lits ls) = literal_words ls.now
+part_words (parts.Numbered d ls) = literal_words (file_lits d.now ls.now)
 part_words (parts.Ids is) = id_words is.now
 
 -- the words of parts, one part after the other

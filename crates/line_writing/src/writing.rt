@@ -1,9 +1,11 @@
 // How a line is written. Its length is counted first, by comparisons alone, and nothing is written where the room is
 // too small. Then its bytes are gathered in a small buffer, which goes to the sink when it is full and at the end: a
 // short line is one write, and a long one is few.
-ghost use Rattle.std.specs.Prelude.{◌≡◌, ◌+◌, ◌≤◌, ◌-◌, ◌∷◌, ◌++◌, [], length};
+ghost use Rattle.std.specs.Prelude.{◌≡◌, ◌+◌, ◌≤◌, ◌-◌, ◌∷◌, ◌++◌, [], codes, length};
 ghost use Rattle.std.specs.Option.{SomeIff};
 ghost use Rattle.session_rules.specs.Spelling.{line_text, status_text};
+ghost use Rattle.lits.specs.Word.{literal_text};
+ghost use Rattle.lits.specs.Numbering.{file_lit};
 ghost use Rattle.line_writing.specs.Held.{line_bytes, list_text, part_text, Puts};
 ghost use Rattle.line_writing.specs.Writing.{line_words, writer, WritesLine};
 
@@ -14,7 +16,7 @@ mod numeral;
 mod tests;
 
 use held::{Held, make_room, pass_on};
-use lits::Lit;
+use lits::{Dense, Lit};
 use numeral::Numeral;
 use outside::{Failed, Sink};
 use session_rules::{Id, StatusWord, WriteFault};
@@ -28,6 +30,9 @@ pub enum Part<'a> {
     Id(Id),
     /// A list of literals and the 0 at its end.
     Lits(&'a [Lit]),
+    /// A list of literals over the numbers of variables, with the variables in place of their numbers, and the 0 at its end.
+    /// A number that no variable has is written as 1.
+    Numbered(&'a Dense, &'a [Lit]),
     /// A list of ids and the 0 at its end.
     Ids(&'a [Id]),
 }
@@ -94,6 +99,7 @@ fn room_behind_part(room: u64, part: &Part) -> Option<u64>
         Part::Word(word) => room.checked_sub(1)?.checked_sub(word.len() as u64),
         Part::Id(id) => room.checked_sub(1 + id.length()),
         Part::Lits(lits) => room_behind_list(room, lits),
+        Part::Numbered(dense, lits) => room_behind_numbered(room, dense, lits),
         Part::Ids(ids) => room_behind_list(room, ids),
     }
 }
@@ -106,6 +112,29 @@ fn room_behind_list<W: Numeral>(room: u64, items: &[W]) -> Option<u64>
     let mut left = room.checked_sub(2)?;
     for item in items {
         left = left.checked_sub(1 + item.length())?;
+    }
+    Some(left)
+}
+
+// The literal with the variable in place of its number.
+fn with_variable(dense: &Dense, l: Lit) -> Lit
+    ensures { result ≡ file_lit dense.now l }
+{
+    if l.var() <= dense.count() {
+        dense.file_lit(l)
+    } else {
+        Lit::from_code(l.code() % 2)
+    }
+}
+
+// What is left of the room behind a list of literals over numbers, its 0 and the spaces before its words, if they fit.
+fn room_behind_numbered(room: u64, dense: &Dense, items: &[Lit]) -> Option<u64>
+    ensures { let size = length (list_text (λ l. literal_text (file_lit dense.now l)) items.now) in
+        SomeIff result (size ≤ room) (room - size) }
+{
+    let mut left = room.checked_sub(2)?;
+    for item in items {
+        left = left.checked_sub(1 + with_variable(dense, *item).length())?;
     }
     Some(left)
 }
@@ -132,6 +161,7 @@ fn put_part<K: Sink>(sink: &mut K, held: &mut Held, part: &Part) -> Result<(), F
         Part::Word(word) => put_word(sink, held, word),
         Part::Id(id) => put_numeral(sink, held, id),
         Part::Lits(lits) => put_list(sink, held, lits),
+        Part::Numbered(dense, lits) => put_numbered(sink, held, dense, lits),
         Part::Ids(ids) => put_list(sink, held, ids),
     }
 }
@@ -144,6 +174,29 @@ fn put_list<K: Sink, W: Numeral>(sink: &mut K, held: &mut Held, items: &[W]) -> 
     for item in items {
         put_numeral(sink, held, item)?;
     }
+    put_end(sink, held)
+}
+
+// Puts a list of literals over numbers and the 0 at its end.
+fn put_numbered<K: Sink>(
+    sink: &mut K,
+    held: &mut Held,
+    dense: &Dense,
+    items: &[Lit],
+) -> Result<(), Failed>
+    ensures { Puts K.written K.finished K.faults sink.old sink.new held.old held.new
+        (list_text (λ l. literal_text (file_lit dense.now l)) items.now) result }
+{
+    for item in items {
+        put_numeral(sink, held, &with_variable(dense, *item))?;
+    }
+    put_end(sink, held)
+}
+
+// Puts the 0 at a list's end.
+fn put_end<K: Sink>(sink: &mut K, held: &mut Held) -> Result<(), Failed>
+    ensures { Puts K.written K.finished K.faults sink.old sink.new held.old held.new (codes " 0") result }
+{
     put_word(sink, held, b"0")
 }
 

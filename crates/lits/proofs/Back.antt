@@ -6,7 +6,7 @@ use Rattle.std.specs.Str.Parse.{digits_value}
 use Rattle.std.proofs.lemmas.Fmt.{decimal-digits_value, decimal_digit}
 use Rattle.std.proofs.lemmas.Bool.{and_parts, cases_Bool}
 use Rattle.lits.specs.declared.LitWord.TheVariants as words
-use Rattle.lits.specs.Literal.{max_file_var, neg, of_var, var, positive, IsFileLiteral}
+use Rattle.lits.specs.Literal.{max_var, neg, of_var, var, positive, IsLiteral}
 use Rattle.lits.specs.Word.{literal_word, literal_text, is_numeral, is_zero, is_short, numeral, magnitude, literal_of, signed, without_minus, starts_with_minus}
 use Rattle.lits.proofs.Digits.{own}
 
@@ -46,7 +46,7 @@ text_of_neg v pos = let odd : neg (of_var v) % 2 ≡ 1 = omega arith in let same
 
 module _ (w : List ℕ) (l v : ℕ) where
   -- by the sign
-  by_sign : v ≤ max_file_var → numeral (without_minus w) ≡ Some v → signed (starts_with_minus w) v ≡ l → IsFileLiteral l × (w ≡ literal_text l)
+  by_sign : v ≤ max_var → numeral (without_minus w) ≡ Some v → signed (starts_with_minus w) v ≡ l → IsLiteral l × (w ≡ literal_text l)
   by_sign small e s = let back = numeral_back (without_minus w) v e (omega arith) in elim (cases_Bool (starts_with_minus w)) [
     | inl q ↦ let is : neg (of_var v) ≡ l = rw q at s in let digits : decimal v ≡ drop 1 w = rw q at back.0 in
         (omega (arith, back.1), minus_word w q ∙ sym (ap (λ xs. 45 ∷ xs) digits) ∙ sym (text_of_neg v back.1) ∙ ap literal_text is)
@@ -54,10 +54,10 @@ module _ (w : List ℕ) (l v : ℕ) where
         (omega (arith, back.1), sym digits ∙ sym (text_of_var v back.1) ∙ ap literal_text is)
   ]
 
-literal_by_size : (w : List ℕ) (l : ℕ) (o : Option ℕ) → magnitude w ≡ o → literal_of (starts_with_minus w) o ≡ words.Value l → IsFileLiteral l × (w ≡ literal_text l)
+literal_by_size : (w : List ℕ) (l : ℕ) (o : Option ℕ) → magnitude w ≡ o → literal_of (starts_with_minus w) o ≡ words.Value l → IsLiteral l × (w ≡ literal_text l)
 unfolding magnitude
 literal_by_size w l None m e = cc e
-literal_by_size w l (Some v) m e = elim (cases_Bool (nat_le v max_file_var)) [
+literal_by_size w l (Some v) m e = elim (cases_Bool (nat_le v max_var)) [
   | inl q ↦ let f : words.Value (signed (starts_with_minus w) v) ≡ words.Value l = rw q at e in
       elim (cases_Bool (is_short w)) [
         | inl s ↦ let g : numeral (without_minus w) ≡ Some v = rw s at m in by_sign w l v (leb-true _ _ q) g (cc f)
@@ -67,7 +67,7 @@ literal_by_size w l (Some v) m e = elim (cases_Bool (nat_le v max_file_var)) [
 ]
 
 -- a word that is read as a literal is the word of this literal
-pub literal_text-literal_word : (w : List ℕ) (l : ℕ) → literal_word w ≡ words.Value l → IsFileLiteral l × (w ≡ literal_text l)
+pub literal_text-literal_word : (w : List ℕ) (l : ℕ) → literal_word w ≡ words.Value l → IsLiteral l × (w ≡ literal_text l)
 unfolding literal_word
 literal_text-literal_word w l e = elim (cases_Bool (is_zero w)) [
   | inl q ↦ let f : words.Zero ≡ words.Value l = rw q at e in cc f

@@ -11,7 +11,7 @@ use Rattle.std.specs.Char.{is_ascii_digit}
 use Rattle.std.specs.Str.Parse.{digits_value, starts_with_minus}
 use Rattle.lits.specs.declared.LitWord.TheVariants as words
 use Rattle.lits.specs.declared.IdWord.TheVariants as ids
-use Rattle.lits.specs.Literal.{max_file_var, neg, of_var, var, positive, IsFileLiteral}
+use Rattle.lits.specs.Literal.{max_var, neg, of_var, var, positive, IsLiteral}
 use Rattle.lits.specs.Word.{literal_word, id_word, magnitude, numeral, literal_of, is_number_byte, is_end_byte, IsFront, IsNumeralFront}
 use Rattle.lits.proofs.Digits.{own, digit_range, digit_is}
 use Rattle.lits.proofs.Back.{literal_text-literal_word}
@@ -188,19 +188,19 @@ id_front_is bytes n v f few e =
     let r = decimal-id_word (take n bytes) v e in
     numeral_from bytes n v f.within f.behind few r.2 r.0 r.1
 
-few_in_decimal : (v : ℕ) → 0 < v → v ≤ max_file_var → length (decimal v) ≤ 18
+few_in_decimal : (v : ℕ) → 0 < v → v ≤ max_var → length (decimal v) ≤ 18
 few_in_decimal v pos small = length-decimal-le 18 v (omega arith) (omega arith) (omega arith)
 
 -- what is known of a literal whose word stands at the front, behind a minus or not
 abbrev FrontOf : List ℕ → Bool → ℕ → Type 0
 FrontOf bytes minus l = (k : ℕ) × IsNumeralFront (drop (if minus then 1 else 0) bytes) k (var l) × (literal_of minus (Some (var l)) ≡ words.Value l)
 
-plain_front : (bytes : List ℕ) (n l : ℕ) → IsFileLiteral l → positive l ≡ true → IsFront bytes n → take n bytes ≡ decimal (var l) → (minus : Bool) → starts_with_minus bytes ≡ minus → FrontOf bytes minus l
+plain_front : (bytes : List ℕ) (n l : ℕ) → IsLiteral l → positive l ≡ true → IsFront bytes n → take n bytes ≡ decimal (var l) → (minus : Bool) → starts_with_minus bytes ≡ minus → FrontOf bytes minus l
 plain_front bytes n l small p f text minus m =
     let few = few_in_decimal (var l) (omega arith) (omega arith) in
     let front = numeral_from bytes n (var l) f.within f.behind (omega (arith, few, ap length text, length-take n bytes, f.within)) text (omega arith) (omega arith) in
     let even : l % 2 ≡ 0 = eqb-true _ _ p in
-    let within : nat_le (var l) max_file_var ≡ true = le-leb _ _ (omega arith) in
+    let within : nat_le (var l) max_var ≡ true = le-leb _ _ (omega arith) in
     let same : of_var (var l) ≡ l = omega arith in
     subst (λ b. FrontOf bytes b l) (sym (no_minus bytes (omega (arith, front.first))) ∙ m) (n, front, rw within (ap words.Value same))
   where
@@ -208,7 +208,7 @@ plain_front bytes n l small p f text minus m =
     no_minus [] h = refl
     no_minus (b ∷ bs) h = ne_eqb b 45 (λ e. omega (arith, h))
 
-negated_front : (bytes : List ℕ) (n l : ℕ) → IsFileLiteral l → positive l ≡ false → IsFront bytes n → take n bytes ≡ 45 ∷ decimal (var l) → (minus : Bool) → starts_with_minus bytes ≡ minus → FrontOf bytes minus l
+negated_front : (bytes : List ℕ) (n l : ℕ) → IsLiteral l → positive l ≡ false → IsFront bytes n → take n bytes ≡ 45 ∷ decimal (var l) → (minus : Bool) → starts_with_minus bytes ≡ minus → FrontOf bytes minus l
 negated_front bytes zero l small p f text minus m = absurd (omega (arith, f.some))
 negated_front [] (suc n) l small p f text minus m = absurd (omega (arith, f.within))
 negated_front (b ∷ bs) (suc n) l small p f text minus m =
@@ -217,7 +217,7 @@ negated_front (b ∷ bs) (suc n) l small p f text minus m =
     let few = few_in_decimal (var l) (omega arith) (omega arith) in
     let front = numeral_from bs n (var l) (omega (arith, f.within)) f.behind (omega (arith, few, ap length digits, length-take n bs, f.within)) digits (omega arith) (omega arith) in
     let odd : (l % 2 ≡ 0) → ⊥ = eqb-false _ _ p in
-    let within : nat_le (var l) max_file_var ≡ true = le-leb _ _ (omega arith) in
+    let within : nat_le (var l) max_var ≡ true = le-leb _ _ (omega arith) in
     let same : neg (of_var (var l)) ≡ l = omega arith in
     subst (λ d. FrontOf (b ∷ bs) d l) (sym (eq-eqb b 45 first) ∙ m) (n, front, rw within (ap words.Value same))
 

@@ -7,7 +7,7 @@ use Rattle.std.proofs.lemmas.Bool.{and_parts, and_from, cases_Bool, leb-false, l
 use Rattle.std.proofs.lemmas.List.Elements.{All-nil, All-cons, All-head, All-tail}
 use Rattle.lits.specs.declared.LitWord.TheVariants as words
 use Rattle.lits.specs.declared.IdWord.TheVariants as ids
-use Rattle.lits.specs.Literal.{max_file_var}
+use Rattle.lits.specs.Literal.{max_var}
 use Rattle.lits.specs.Word.{literal_word, id_word, IsNumeral, is_numeral, is_zero, is_short, numeral, magnitude, literal_of, id_of, without_minus}
 use Rattle.lits.proofs.Digits.{digit_range}
 use Rattle.lits.proofs.Back.{numeral_back}
@@ -108,15 +108,15 @@ zero_literal w q = rw q refl
 
 literal_isnt_zero : (m : Bool) (o : Option ℕ) → literal_of m o ≡ words.Zero → ⊥
 literal_isnt_zero m None e = cc
-literal_isnt_zero m (Some v) e = elim (cases_Bool (nat_le v max_file_var)) [ inl q ↦ let f = rw q at e in cc f | inr q ↦ let f = rw q at e in cc f ]
+literal_isnt_zero m (Some v) e = elim (cases_Bool (nat_le v max_var)) [ inl q ↦ let f = rw q at e in cc f | inr q ↦ let f = rw q at e in cc f ]
 
-literal_beyond_at : (m : Bool) (o : Option ℕ) → literal_of m o ≡ words.OutOfRange → (v : ℕ) × (o ≡ Some v) × (max_file_var < v)
+literal_beyond_at : (m : Bool) (o : Option ℕ) → literal_of m o ≡ words.OutOfRange → (v : ℕ) × (o ≡ Some v) × (max_var < v)
 literal_beyond_at m None e = cc
-literal_beyond_at m (Some v) e = elim (cases_Bool (nat_le v max_file_var)) [ inl q ↦ let f = rw q at e in cc f | inr q ↦ (v, refl, leb-false v max_file_var q) ]
+literal_beyond_at m (Some v) e = elim (cases_Bool (nat_le v max_var)) [ inl q ↦ let f = rw q at e in cc f | inr q ↦ (v, refl, leb-false v max_var q) ]
 
 literal_none_at : (m : Bool) (o : Option ℕ) → literal_of m o ≡ words.NotNumber → o ≡ None
 literal_none_at m None e = refl
-literal_none_at m (Some v) e = elim (cases_Bool (nat_le v max_file_var)) [ inl q ↦ let f = rw q at e in cc f | inr q ↦ let f = rw q at e in cc f ]
+literal_none_at m (Some v) e = elim (cases_Bool (nat_le v max_var)) [ inl q ↦ let f = rw q at e in cc f | inr q ↦ let f = rw q at e in cc f ]
 
 -- a word that isn't read as 0 isn't 0
 literal_past_zero : (w : List ℕ) → (literal_word w ≢ words.Zero) → is_zero w ≡ false
@@ -131,17 +131,17 @@ literal_zero_at w e = elim (cases_Bool (is_zero w)) [
 pub literal_zero_from : (w : List ℕ) → w ≡ codes "0" → literal_word w ≡ words.Zero
 literal_zero_from w e = zero_literal w (zero_from w e)
 
-pub literal_beyond : (w : List ℕ) → literal_word w ≡ words.OutOfRange → IsNumeral (without_minus w) × (length w ≤ 32) × (max_file_var < digits_value 10 (without_minus w))
+pub literal_beyond : (w : List ℕ) → literal_word w ≡ words.OutOfRange → IsNumeral (without_minus w) × (length w ≤ 32) × (max_var < digits_value 10 (without_minus w))
 literal_beyond w e =
     let past = literal_past_zero w (λ z. let f : words.Zero ≡ words.OutOfRange = sym z ∙ e in cc f) in
     let r = literal_beyond_at (starts_with_minus w) (short_numeral w (without_minus w)) (sym (nonzero_literal w past) ∙ e) in
     let s = short_at w (without_minus w) r.0 r.1 in
     let n = numeral_at (without_minus w) r.0 s.1 in
-    (n.0, s.0, subst (λ x. max_file_var < x) (sym n.1) r.2)
+    (n.0, s.0, subst (λ x. max_var < x) (sym n.1) r.2)
 
-pub literal_beyond_from : (w : List ℕ) → IsNumeral (without_minus w) × (length w ≤ 32) × (max_file_var < digits_value 10 (without_minus w)) → literal_word w ≡ words.OutOfRange
+pub literal_beyond_from : (w : List ℕ) → IsNumeral (without_minus w) × (length w ≤ 32) × (max_var < digits_value 10 (without_minus w)) → literal_word w ≡ words.OutOfRange
 literal_beyond_from w h =
-    let q : nat_le (digits_value 10 (without_minus w)) max_file_var ≡ false = lt-leb _ _ h.2 in
+    let q : nat_le (digits_value 10 (without_minus w)) max_var ≡ false = lt-leb _ _ h.2 in
     nonzero_literal w (not_zero w (signed_not_zero w h.0)) ∙ ap (literal_of (starts_with_minus w)) (short_from w (without_minus w) h.1 h.0) ∙ rw q refl
 
 pub literal_none : (w : List ℕ) → literal_word w ≡ words.NotNumber → (w ≢ codes "0") × (IsNumeral (without_minus w) → 32 < length w)

@@ -10,7 +10,7 @@ use Rattle.std.proofs.lemmas.Fmt.{decimal_is_IsNumeral, digits_decimal, length-d
 use Rattle.std.proofs.lemmas.Bool.{and_from, cases_Bool, eqb-false}
 use Rattle.lits.specs.declared.LitWord.TheVariants as words
 use Rattle.lits.specs.declared.IdWord.TheVariants as ids
-use Rattle.lits.specs.Literal.{max_file_var, neg, of_var, var, positive, IsFileLiteral}
+use Rattle.lits.specs.Literal.{max_var, neg, of_var, var, positive, IsLiteral}
 use Rattle.lits.specs.Word.{literal_word, id_word, literal_text}
 
 -- the value of digits, as a fold
@@ -39,7 +39,7 @@ IsWord-decimal n pos small = let fits : n < 2 ^ 64 = omega arith in record {
 }
 
 -- what is read of a word that is a numeral
-positive_word : (ds : List ℕ) (n : ℕ) → IsWord ds n → n ≤ max_file_var → literal_word ds ≡ words.Value (of_var n)
+positive_word : (ds : List ℕ) (n : ℕ) → IsWord ds n → n ≤ max_var → literal_word ds ≡ words.Value (of_var n)
 unfolding literal_word magnitude numeral
 positive_word [] n w small = absurd (omega (arith, w.nonempty))
 positive_word (d ∷ ds) n w small =
@@ -48,21 +48,21 @@ positive_word (d ∷ ds) n w small =
     let not_minus : nat_eq d 45 ≡ false = ne_eqb d 45 (λ e. omega (arith, w.first)) in
     let short : nat_le (suc (length ds)) 32 ≡ true = le-leb _ _ (omega (arith, w.short)) in
     let numeral : (nat_lt 48 d && list_all is_ascii_digit (d ∷ ds)) ≡ true = and_from _ _ big w.digits in
-    let within : nat_le n max_file_var ≡ true = le-leb _ _ small in
+    let within : nat_le n max_var ≡ true = le-leb _ _ small in
     rw (not_zero, not_minus, short, numeral, w.value, within) refl
 
-negative_word : (ds : List ℕ) (n : ℕ) → IsWord ds n → n ≤ max_file_var → literal_word (45 ∷ ds) ≡ words.Value (neg (of_var n))
+negative_word : (ds : List ℕ) (n : ℕ) → IsWord ds n → n ≤ max_var → literal_word (45 ∷ ds) ≡ words.Value (neg (of_var n))
 unfolding literal_word magnitude numeral
 negative_word [] n w small = absurd (omega (arith, w.nonempty))
 negative_word (d ∷ ds) n w small =
     let big : nat_lt 48 d ≡ true = lt-ltb 48 d w.first in
     let short : nat_le (suc (suc (length ds))) 32 ≡ true = le-leb _ _ (omega (arith, w.short)) in
     let numeral : (nat_lt 48 d && list_all is_ascii_digit (d ∷ ds)) ≡ true = and_from _ _ big w.digits in
-    let within : nat_le n max_file_var ≡ true = le-leb _ _ small in
+    let within : nat_le n max_var ≡ true = le-leb _ _ small in
     rw (short, numeral, w.value, within) refl
 
 -- the word of a literal is read as this literal
-pub literal_word-literal_text : (l : ℕ) → IsFileLiteral l → literal_word (literal_text l) ≡ words.Value l
+pub literal_word-literal_text : (l : ℕ) → IsLiteral l → literal_word (literal_text l) ≡ words.Value l
 literal_word-literal_text l small = elim (cases_Bool (positive l)) [
   | inl q ↦ let even : l % 2 ≡ 0 = eqb-true _ _ q in let same : of_var (var l) ≡ l = omega arith in
       rw q (positive_word (decimal (var l)) (var l) (IsWord-decimal (var l) (omega arith) (omega arith)) (omega arith) ∙ ap words.Value same)

@@ -1,15 +1,11 @@
 -- Literals, by their codes: the variable v is 2 (v - 1), and its negation is one more. So each number is a literal
 -- of some variable, and no fact on literals has a premise; `IsLiteral` is the limit on the variable.
 use Rattle.std.specs.Prelude.{ℕ, ◌+◌, ◌-◌, ◌*◌, ◌/◌, ◌%◌, ◌<◌, ◌≤◌, Bool, nat_eq, if◌then◌else◌, ℤ, pos, negsuc, nat_abs}
-use Rattle.lits.specs.declared.TheConstants.{MAX_VAR, MAX_FILE_VAR}
+use Rattle.lits.specs.declared.TheConstants.{MAX_VAR}
 
 -- the greatest variable
 abbrev pub max_var : ℕ
 max_var = MAX_VAR
-
--- the greatest variable that a file may name
-abbrev pub max_file_var : ℕ
-max_file_var = MAX_FILE_VAR
 
 -- the variable of a literal
 abbrev pub var : ℕ → ℕ
@@ -39,10 +35,6 @@ of_number (negsuc v) = 2 * v + 1
 -- the variable is within the limit
 abbrev pub IsLiteral : ℕ → Type 0
 IsLiteral l = l < 2 * max_var
-
--- a file may name the variable
-abbrev pub IsFileLiteral : ℕ → Type 0
-IsFileLiteral l = l < 2 * max_file_var
 
 -- the number is one of a literal
 abbrev pub IsNumber : ℤ → Type 0

@@ -8,7 +8,7 @@ use Rattle.lits.specs.declared.LitWord.{LitWord}
 use Rattle.lits.specs.declared.LitWord.TheVariants as words
 use Rattle.lits.specs.declared.IdWord.{IdWord}
 use Rattle.lits.specs.declared.IdWord.TheVariants as ids
-use Rattle.lits.specs.Literal.{max_file_var, neg, of_var, var, positive}
+use Rattle.lits.specs.Literal.{max_var, neg, of_var, var, positive}
 
 -- the word of a literal: its variable in decimal, behind a minus for a negation
 abbrev pub literal_text : ℕ → List ℕ
@@ -50,7 +50,7 @@ signed minus v = if minus then neg (of_var v) else of_var v
 -- what a sign and an absolute value say as a literal
 abbrev pub literal_of : Bool → Option ℕ → LitWord
 literal_of minus None = words.NotNumber
-literal_of minus (Some v) = if nat_le v max_file_var then words.Value (signed minus v) else words.OutOfRange
+literal_of minus (Some v) = if nat_le v max_var then words.Value (signed minus v) else words.OutOfRange
 
 -- what a word says as a literal
 unfoldable pub literal_word : List ℕ → LitWord

@@ -5,7 +5,7 @@ ghost use Rattle.std.specs.List.Sorted.{IsStrictlyIncreasing};
 ghost use Rattle.std.specs.Ordering.{nat_cmp};
 ghost use Rattle.std.specs.Str.Parse.{digits_value};
 ghost use Rattle.std.specs.Cmp.Lexicographic.{slice_cmp};
-ghost use Rattle.lits.specs.Literal.{max_var, max_file_var, var, positive, neg, number, of_number, IsLiteral, IsFileLiteral, IsNumber};
+ghost use Rattle.lits.specs.Literal.{max_var, var, positive, neg, number, of_number, IsLiteral, IsNumber};
 ghost use Rattle.lits.specs.Clause.{has, is_part, same_set, is_tautology, set_of};
 ghost use Rattle.lits.specs.Numbering.{IsVariable, IsNumbering, number_of, var_of, with_var, is_known, are_known, dense_lit, file_lit, dense_lits, file_lits, with_lits, numbered_lits};
 ghost use Rattle.lits.specs.Word.{literal_word, id_word, literal_text, without_minus, IsNumeral};
@@ -72,9 +72,9 @@ pub fn sorted_sets_are_unique()
 pub fn words_are_literals()
     ensures zero { (w : List ℕ) → (literal_word w ≡ LitWord.Zero) ↔ (w ≡ codes "0") }
     ensures value { (w : List ℕ) (l : ℕ)
-        → (literal_word w ≡ LitWord.Value l) ↔ (IsFileLiteral l × (w ≡ literal_text l)) }
+        → (literal_word w ≡ LitWord.Value l) ↔ (IsLiteral l × (w ≡ literal_text l)) }
     ensures out_of_range { (w : List ℕ) → (literal_word w ≡ LitWord.OutOfRange)
-        ↔ (IsNumeral (without_minus w) × (length w ≤ 32) × (max_file_var < digits_value 10 (without_minus w))) }
+        ↔ (IsNumeral (without_minus w) × (length w ≤ 32) × (max_var < digits_value 10 (without_minus w))) }
     ensures not_number { (w : List ℕ) → (literal_word w ≡ LitWord.NotNumber)
         ↔ ((w ≢ codes "0") × (IsNumeral (without_minus w) → 32 < length w)) }
 {}

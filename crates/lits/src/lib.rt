@@ -30,11 +30,8 @@ pub use crate::set::LitSet;
 use std::alloc::{AllocError, Global};
 use std::marker::Model;
 
-/// The greatest variable.
+/// The greatest variable, in memory and in files.
 pub const MAX_VAR: u32 = 2_147_483_647;
-
-/// The greatest variable that a file may name: tables are as long as the greatest variable that was named.
-pub const MAX_FILE_VAR: u32 = 16_777_215;
 
 /// A variable or its negation, ordered by its code. The default is variable 1, which fills unused places of short sets.
 #[derive(Clone, Copy, PartialEq, Eq, PartialOrd, Ord, Hash, Debug, Default)]

@@ -11,7 +11,7 @@ ghost use Rattle.lits.specs.Word as spec;
 ghost use Rattle.lits.specs.declared.LitWord.TheVariants as words;
 ghost use Rattle.lits.specs.declared.IdWord.TheVariants as ids;
 
-use crate::{IdWord, Lit, LitWord, MAX_FILE_VAR};
+use crate::{IdWord, Lit, LitWord, MAX_VAR};
 
 /// The greatest number of bytes in the word of a number.
 const MAX_LEN: usize = 32;
@@ -218,7 +218,7 @@ fn with_digit(value: u64, digit: u8) -> u64
 fn literal_of(minus: bool, size: u64) -> LitWord
     ensures { result ≡ spec.literal_of minus (Some size) }
 {
-    if size > MAX_FILE_VAR as u64 {
+    if size > MAX_VAR as u64 {
         return LitWord::OutOfRange;
     }
     let positive = 2 * (size as u32).saturating_sub(1);

@@ -1,8 +1,6 @@
 // Words at the limits, a set and a list, and each printed form once.
 
-use crate::{
-    Dense, IdWord, Lit, LitSet, LitWord, Lits, MAX_FILE_VAR, MAX_VAR, id_word, literal_word,
-};
+use crate::{Dense, IdWord, Lit, LitSet, LitWord, Lits, MAX_VAR, id_word, literal_word};
 use std::collections::{BTreeMap, HashSet};
 use std::test::Fail;
 
@@ -36,11 +34,11 @@ fn literals_reach_the_limit(rt: HostRuntime) {
 
 #[test]
 fn words_are_read_as_literals(rt: HostRuntime) -> Result<(), Fail> {
-    let greatest = format!(in rt.alloc(); "-{}", MAX_FILE_VAR)?;
-    let beyond = format!(in rt.alloc(); "{}", MAX_FILE_VAR as u64 + 1)?;
+    let greatest = format!(in rt.alloc(); "-{}", MAX_VAR)?;
+    let beyond = format!(in rt.alloc(); "{}", MAX_VAR as u64 + 1)?;
     assert_eq!(rt;
         literal_word(greatest.as_bytes()),
-        LitWord::Value(lit(-(MAX_FILE_VAR as i64)))
+        LitWord::Value(lit(-(MAX_VAR as i64)))
     );
     assert_eq!(rt; literal_word(beyond.as_bytes()), LitWord::OutOfRange);
     for (word, want) in [

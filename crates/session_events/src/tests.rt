@@ -1,20 +1,23 @@
 // A session's events in their order, and what each broken rule names.
 
 ghost use Rattle.std.specs.Prelude.{◌≡◌, ◌≤◌, IfOk};
-ghost use Rattle.lits.specs.Literal.{max_file_var, var};
+ghost use Rattle.lits.specs.Literal.{var};
 
 use crate::{Events, Kind};
-use lits::{Lit, MAX_FILE_VAR};
+use lits::Lit;
 use session_rules::{Event, Phase, Rule, StatusWord};
 use std::alloc::{AllocError, Global};
 use std::test::Fail;
 
-// The literal of a number, or the default for a number that has none.
+// The greatest variable that the tests reserve.
+const VARS: u32 = 1_000;
+
+// The literal of a number, or the default for a number that has none up to `VARS`.
 fn lit(n: i64) -> Lit
-    ensures { var result ≤ max_file_var }
+    ensures { var result ≤ 1000 }
 {
     let l = Lit::new(n).unwrap_or(Lit::default());
-    if l.var() > MAX_FILE_VAR {
+    if l.var() > VARS {
         return Lit::default();
     }
     l
@@ -22,10 +25,10 @@ fn lit(n: i64) -> Lit
 
 // Behind the inputs `1 2` and `-1 3` and the query `2 -4`.
 fn asked(alloc: Global) -> Result<Events, AllocError>
-    ensures { IfOk result (λ e. e.reserved ≡ max_file_var) }
+    ensures { IfOk result (λ e. e.reserved ≡ 1000) }
 {
     let mut events = Events::new(alloc);
-    events.reserve(MAX_FILE_VAR)?;
+    events.reserve(VARS)?;
     events.take_input(&[lit(1), lit(2)])?;
     events.take_input(&[lit(-1), lit(3)])?;
     events.take_query(&[lit(2), lit(-4)])?;

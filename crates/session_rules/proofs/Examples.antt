@@ -53,11 +53,11 @@ literal_minus_12 : literal_word (codes "-12") ≡ literals.Value 23
 unfolding literal_word magnitude numeral
 literal_minus_12 = refl
 
-greatest_literal : literal_word (codes "16777215") ≡ literals.Value 33554428
+greatest_literal : literal_word (codes "2147483647") ≡ literals.Value 4294967292
 unfolding literal_word magnitude numeral
 greatest_literal = refl
 
-beyond_limit : literal_word (codes "16777216") ≡ literals.OutOfRange
+beyond_limit : literal_word (codes "2147483648") ≡ literals.OutOfRange
 unfolding literal_word magnitude numeral
 beyond_limit = refl
 

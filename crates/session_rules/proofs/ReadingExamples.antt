@@ -2,7 +2,7 @@
 use Rattle.std.proofs.Common.{◌≡◌, ℕ, false, [], ◌∷◌, codes, refl, Option, Some, None, All, arith}
 use Prim.Native.String.{String}
 use Rattle.std.specs.Fmt.{digits}
-use Rattle.lits.specs.Literal.{IsFileLiteral}
+use Rattle.lits.specs.Literal.{IsLiteral}
 use Rattle.lits.specs.Word.{literal_word, id_word, magnitude, numeral}
 use Rattle.session_rules.specs.declared.Event.TheVariants as events
 use Rattle.session_rules.specs.declared.Step.TheVariants as steps
@@ -106,8 +106,8 @@ header_cut_behind_third_word = refl
 
 -- ---- Words that begin a line
 
-one_literal : All IsFileLiteral (0 ∷ [])
-one_literal = All-cons IsFileLiteral 0 [] (omega arith) (λ i d lt. absurd (omega arith))
+one_literal : All IsLiteral (0 ∷ [])
+one_literal = All-cons IsLiteral 0 [] (omega arith) (λ i d lt. absurd (omega arith))
 
 lemma_begun : Begins IsStep step_words (codes "l" ∷ codes "1" ∷ [])
 unfolding digits

@@ -174,17 +174,17 @@ unfolding row
 no_last_line_end = refl
 
 -- accepted 0 queries
-pub greatest_variable : row Idrup "p icnf\ni 16777215 0\n" "p idrup\ni 16777215 0\n" ≡ Accepted 0
+pub greatest_variable : row Idrup "p icnf\ni 2147483647 0\n" "p idrup\ni 2147483647 0\n" ≡ Accepted 0
 unfolding row
 greatest_variable = refl
 
 -- refused proof 2 Range
-pub beyond_variables : row Idrup "p icnf\ni 16777216 0\n" "p idrup\ni 16777216 0\n" ≡ Refused Proof 2 rules.Range
+pub beyond_variables : row Idrup "p icnf\ni 2147483648 0\n" "p idrup\ni 2147483648 0\n" ≡ Refused Proof 2 rules.Range
 unfolding row
 beyond_variables = refl
 
 -- refused interaction 2 Range
-pub beyond_in_interaction : row Idrup "p icnf\ni 16777216 0\n" "p idrup\ni 16777215 0\n" ≡ Refused Interaction 2 rules.Range
+pub beyond_in_interaction : row Idrup "p icnf\ni 2147483648 0\n" "p idrup\ni 2147483647 0\n" ≡ Refused Interaction 2 rules.Range
 unfolding row
 beyond_in_interaction = refl
 

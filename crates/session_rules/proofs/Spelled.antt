@@ -8,7 +8,7 @@ use Rattle.std.proofs.lemmas.Bool.{and_parts, and_from, cases_Bool, not-true}
 use Rattle.std.specs.Str.{all_ascii_digits}
 use Rattle.std.specs.Char.{is_ascii_digit}
 use Rattle.std.proofs.Common.{leb-true, ne_eqb}
-use Rattle.lits.specs.Literal.{IsFileLiteral, positive, var}
+use Rattle.lits.specs.Literal.{IsLiteral, positive, var}
 use Rattle.lits.specs.Word.{literal_word, id_word, literal_text}
 use Rattle.lits.proofs.Words.{literal_word-literal_text, id_word-decimal, IsWord-decimal}
 use Rattle.session_rules.specs.declared.StatusWord.{StatusWord}
@@ -42,7 +42,7 @@ pub literal_list-literal_words : (ls : List ℕ) (ws : List (List ℕ)) → AreL
 unfolding literal_list literal_word
 literal_list-literal_words [] ws h = refl
 literal_list-literal_words (l ∷ ls) ws h =
-    rw (literal_word-literal_text l (All-head IsFileLiteral l ls h), literal_list-literal_words ls ws (All-tail IsFileLiteral l ls h)) refl
+    rw (literal_word-literal_text l (All-head IsLiteral l ls h), literal_list-literal_words ls ws (All-tail IsLiteral l ls h)) refl
 
 pub id_list-id_words : (is : List ℕ) (ws : List (List ℕ)) → AreIds is → id_list (id_words is ++ ws) ≡ Ok (is, ws)
 unfolding id_list id_word
@@ -249,7 +249,7 @@ not_empty (b ∷ bs) h = refl
 decimal_plain : (n : ℕ) → 0 < n → n < 2 ^ 63 → is_plain_word (decimal n) ≡ true
 decimal_plain n pos small = let w = IsWord-decimal n pos small in and_from _ _ (not_empty (decimal n) w.nonempty) (digits_plain (decimal n) w.digits)
 
-literal_plain : (l : ℕ) → IsFileLiteral l → is_plain_word (literal_text l) ≡ true
+literal_plain : (l : ℕ) → IsLiteral l → is_plain_word (literal_text l) ≡ true
 literal_plain l small = elim (cases_Bool (positive l)) [
   | inl q ↦ rw q (decimal_plain (var l) (omega arith) (omega arith))
   | inr q ↦ rw q (let w = IsWord-decimal (var l) (omega arith) (omega arith) in and_from _ _ refl (digits_plain (decimal (var l)) w.digits))
@@ -257,7 +257,7 @@ literal_plain l small = elim (cases_Bool (positive l)) [
 
 literal_words_plain : (ls : List ℕ) → AreLiterals ls → list_all is_plain_word (literal_words ls) ≡ true
 literal_words_plain [] h = refl
-literal_words_plain (l ∷ ls) h = and_from _ _ (literal_plain l (All-head IsFileLiteral l ls h)) (literal_words_plain ls (All-tail IsFileLiteral l ls h))
+literal_words_plain (l ∷ ls) h = and_from _ _ (literal_plain l (All-head IsLiteral l ls h)) (literal_words_plain ls (All-tail IsLiteral l ls h))
 
 status_plain : (s : StatusWord) → list_all is_plain_word (status_text s ∷ []) ≡ true
 status_plain Satisfiable = refl

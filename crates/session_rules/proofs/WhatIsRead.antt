@@ -7,7 +7,7 @@ use Rattle.lits.specs.declared.LitWord.{LitWord}
 use Rattle.lits.specs.declared.LitWord.TheVariants as literals
 use Rattle.lits.specs.declared.IdWord.{IdWord}
 use Rattle.lits.specs.declared.IdWord.TheVariants as ids
-use Rattle.lits.specs.Literal.{IsFileLiteral}
+use Rattle.lits.specs.Literal.{IsLiteral}
 use Rattle.lits.specs.Word.{literal_word, id_word, literal_text}
 use Rattle.lits.proofs.Back.{literal_text-literal_word}
 use Rattle.lits.proofs.WordKinds.{literal_zero_at, id_zero_at, decimal-id_word}
@@ -51,7 +51,7 @@ literals_sound w ws literals.Zero k o e back m h = subst (λ n. AreLiterals n.0 
     (λ i d lt. absurd (omega arith), ap (λ v. v ∷ ws) (literal_zero_at w k))
 literals_sound w ws (literals.Value l) k (Ok n) e back m h = let own = literal_text-literal_word w l k in let more = back n.0 n.1 e in
     subst (λ n. AreLiterals n.0 × (w ∷ ws ≡ literal_words n.0 ++ n.1)) (ok_same (Ok (l ∷ n.0, n.1)) (l ∷ n.0, n.1) m refl h)
-    (All-cons IsFileLiteral l n.0 own.0 more.0, ap (λ v. v ∷ ws) own.1 ∙ ap (λ vs. literal_text l ∷ vs) more.1)
+    (All-cons IsLiteral l n.0 own.0 more.0, ap (λ v. v ∷ ws) own.1 ∙ ap (λ vs. literal_text l ∷ vs) more.1)
 literals_sound w ws (literals.Value l) k (Err f) e back m h = cc h
 literals_sound w ws literals.NotNumber k o e back m h = cc h
 literals_sound w ws literals.OutOfRange k o e back m h = cc h

@@ -1,6 +1,6 @@
 -- The words of each value, and the text of values.
 use Rattle.std.specs.Prelude.{◌+◌, ◌≡◌, ℕ, ◌^◌, ◌<◌, List, [], ◌∷◌, ◌++◌, length, map, flat_map, codes, decimal, All}
-use Rattle.lits.specs.Literal.{IsFileLiteral}
+use Rattle.lits.specs.Literal.{IsLiteral}
 use Rattle.lits.specs.Word.{literal_text}
 use Rattle.session_rules.specs.declared.StatusWord.{StatusWord}
 use Rattle.session_rules.specs.declared.StatusWord.TheVariants.{Satisfiable, Unsatisfiable, Unknown}
@@ -76,7 +76,7 @@ numbered_values n (x ∷ xs) = (n, x) ∷ numbered_values (n + 1) xs
 -- ---- What has a spelling
 
 abbrev pub AreLiterals : List ℕ → Type 0
-AreLiterals ls = All IsFileLiteral ls
+AreLiterals ls = All IsLiteral ls
 
 abbrev pub IsId : ℕ → Type 0
 IsId i = (0 < i) × (i < 2 ^ 63)

@@ -16,7 +16,7 @@ pub trait Log {
     /// The form in which its lines are measured.
     ghost form: { Self → Form };
 
-    /// The variables that its lines print under another number.
+    /// The variables of the numbering over which it is told literals, in the order of their numbers: its lines print them.
     ghost names: { Self → Names };
 
     /// How many bytes its lines may still have.

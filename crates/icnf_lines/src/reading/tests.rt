@@ -57,9 +57,9 @@ fn long_input(alloc: Global, count: u32) -> Result<Vec<u8>, AllocError> {
 fn lines_are_read_as_they_are_written(rt: HostRuntime) -> Result<(), Fail> {
     let alloc = rt.alloc();
     let text =
-        "p icnf\ni 1 -2 0\nc a comment\n\n i\t0\r\nq -2 16777215 -2 0\ns SATISFIABLE\nm -1 2 0\ns UNSATISFIABLE\nu -2 0\ns UNKNOWN\nv -1 0\nf\t-2  0";
+        "p icnf\ni 1 -2 0\nc a comment\n\n i\t0\r\nq -2 2147483647 -2 0\ns SATISFIABLE\nm -1 2 0\ns UNSATISFIABLE\nu -2 0\ns UNKNOWN\nv -1 0\nf\t-2  0";
     let wanted =
-        "i 1 -2 0\ni 0\nq -2 16777215 -2 0\ns SATISFIABLE\nm -1 2 0\ns UNSATISFIABLE\nu -2 0\ns UNKNOWN\nv -1 0\nf -2 0\n";
+        "i 1 -2 0\ni 0\nq -2 2147483647 -2 0\ns SATISFIABLE\nm -1 2 0\ns UNSATISFIABLE\nu -2 0\ns UNKNOWN\nv -1 0\nf -2 0\n";
     for most in [1, 1_000] {
         let mut sink = MemorySink::new(alloc, 7, Vec::new(alloc));
         let answer = read_again(alloc, text.as_bytes(), most, &mut sink)?;
@@ -108,10 +108,10 @@ fn broken_lines_are_refused_in_single_bytes(rt: HostRuntime) -> Result<(), Fail>
         ("m - 0", Rule::Number),
         ("i 1 2- 0", Rule::Number),
         ("i 111111111111111111111111111111111 0", Rule::Number),
-        ("i 01 16777216 0", Rule::Number),
-        ("i 16777216 0", Rule::Range),
-        ("q 1 -16777216 0", Rule::Range),
-        ("i 16777216 01 0", Rule::Range),
+        ("i 01 2147483648 0", Rule::Number),
+        ("i 2147483648 0", Rule::Range),
+        ("q 1 -2147483648 0", Rule::Range),
+        ("i 2147483648 01 0", Rule::Range),
         ("s SAT", Rule::Word),
         ("s", Rule::Word),
         ("s satisfiable", Rule::Word),

@@ -24,7 +24,7 @@ fn each_event_has_its_line(rt: HostRuntime) -> Result<(), Fail> {
     let mut room = 1_000;
     assert_eq!(rt; write_header(&mut sink, &mut room, b"icnf"), Ok(()));
     let events = [
-        Event::Input(lits(&rt, alloc, &[1, -2, 16_777_215])?),
+        Event::Input(lits(&rt, alloc, &[1, -2, 2_147_483_647])?),
         Event::Input(lits(&rt, alloc, &[])?),
         Event::Query(lits(&rt, alloc, &[-2, -2])?),
         Event::Status(Satisfiable),
@@ -37,7 +37,7 @@ fn each_event_has_its_line(rt: HostRuntime) -> Result<(), Fail> {
         assert_eq!(rt; write_line(&mut sink, &mut room, event), Ok(()));
     }
     let text =
-        b"p icnf\ni 1 -2 16777215 0\ni 0\nq -2 -2 0\ns SATISFIABLE\nm -1 2 0\ns UNSATISFIABLE\nu -2 0\ns UNKNOWN\n";
+        b"p icnf\ni 1 -2 2147483647 0\ni 0\nq -2 -2 0\ns SATISFIABLE\nm -1 2 0\ns UNSATISFIABLE\nu -2 0\ns UNKNOWN\n";
     assert_eq!(rt; sink.bytes(), text.as_slice());
     assert_eq!(rt; room, 1_000 - text.len() as u64);
     room = 12;

@@ -118,7 +118,7 @@ fn broken_lines_are_refused_in_single_bytes(rt: HostRuntime) -> Result<(), Fail>
         ("i 9223372036854775808 1 0", Rule::Range),
         ("l 9223372036854775808 0 0", Rule::Range),
         ("d 9223372036854775808 0", Rule::Range),
-        ("l 1 16777216 0 0", Rule::Range),
+        ("l 1 2147483648 0 0", Rule::Range),
         ("u 0 9223372036854775808 0", Rule::Range),
         ("s MAYBE", Rule::Word),
         ("s", Rule::Word),

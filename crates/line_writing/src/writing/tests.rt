@@ -1,6 +1,6 @@
 // Lines through sinks that take a few bytes at a time, sinks that fail, and a line that is too long to be held back.
 use crate::{Part, write_parts};
-use lits::Lit;
+use lits::{Dense, Lit};
 use outside::MemorySink;
 use session_rules::WriteFault;
 use std::alloc::{AllocError, Global};
@@ -84,6 +84,22 @@ fn a_long_line_takes_few_writes(rt: HostRuntime) -> Result<(), Fail> {
     assert!(rt; sink.bytes().starts_with(b"q -16777215 -16777215 "));
     assert!(rt; sink.bytes().ends_with(b" -16777215 -16777215 0\n"));
     assert_eq!(rt; sink.bytes().iter().filter(|b| **b == b' ').count(), 2_001);
+    assert_eq!(rt; room, 0);
+    Ok(())
+}
+
+// The variables 7 and 2,147,483,647 have the numbers 1 and 2.
+#[test]
+fn variables_stand_in_place_of_their_numbers(rt: HostRuntime) -> Result<(), Fail> {
+    let mut dense = Dense::new(rt.alloc());
+    let _ = dense.number_lit(lit(&rt, 7))?;
+    let _ = dense.number_lit(lit(&rt, 2_147_483_647))?;
+    let lits = [lit(&rt, -2), lit(&rt, 1)];
+    let parts = [Part::Numbered(&dense, &lits)];
+    let mut room = 18;
+    let mut sink = MemorySink::new(rt.alloc(), 65_536, Vec::new(rt.alloc()));
+    assert_eq!(rt; write_parts(&mut sink, &mut room, b'l', &parts), Ok(()));
+    assert_eq!(rt; sink.bytes(), b"l -2147483647 7 0\n".as_slice());
     assert_eq!(rt; room, 0);
     Ok(())
 }

@@ -28,4 +28,4 @@ returns g c =
     let word = λ (x : g.row.W.Denot). 32 ∷ g.W.Numeral.text x in
     let items = c.args.items.now in
     let before = rw (take_all c.loop-item.item-index items c.loop-item-test.false) at c.loop-item.invariant in
-    Puts-join _ _ _ _ _ _ _ _ _ (flat_map word items) (codes " 0") _ before c.put_word.ensures
+    Puts-join _ _ _ _ _ _ _ _ _ (flat_map word items) (codes " 0") _ before c.put_end.ensures
