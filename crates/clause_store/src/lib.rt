@@ -287,5 +287,3 @@ impl Store {
     }
 }
 
-#[cfg(test)]
-mod tests;

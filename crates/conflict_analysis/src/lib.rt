@@ -346,5 +346,3 @@ pub fn analyze(
     Ok(level_of_second(engine, lemma))
 }
 
-#[cfg(test)]
-mod tests;

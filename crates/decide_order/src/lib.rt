@@ -164,5 +164,3 @@ impl Order {
     }
 }
 
-#[cfg(test)]
-mod tests;

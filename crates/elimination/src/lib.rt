@@ -16,8 +16,6 @@ mod known;
 mod laws;
 mod listing;
 mod pairs;
-#[cfg(test)]
-mod tests;
 
 pub use asked::would_be_eligible;
 pub use board::Board;

@@ -267,5 +267,3 @@ impl HintCheck {
     }
 }
 
-#[cfg(test)]
-mod tests;

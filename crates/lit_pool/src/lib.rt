@@ -25,11 +25,6 @@ mod freed;
 mod kind;
 mod piece;
 mod pieces;
-#[cfg(test)]
-mod plain;
-#[cfg(test)]
-#[tactic(auto, using(crate::proofs::Slots::slot_steps))]
-mod tests;
 mod words;
 
 use crate::freed::{Freed, Size, size_for, size_within};

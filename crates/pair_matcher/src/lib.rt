@@ -7,8 +7,6 @@ mod lidrup;
 mod literals;
 mod proof_side;
 mod strangers;
-#[cfg(test)]
-mod tests;
 mod turns;
 
 pub use checking::{CheckFault, check_pair};

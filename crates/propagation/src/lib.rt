@@ -568,5 +568,3 @@ pub fn law_of_places()
         → logic.has (literals e.trail) (neg l) ≡ false }
 {}
 
-#[cfg(test)]
-mod tests;

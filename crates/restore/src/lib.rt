@@ -20,5 +20,3 @@ pub use lists::{Elim, ElimList, Kept, KeptList};
 pub use stack::Stack;
 pub use values::Values;
 
-#[cfg(test)]
-mod tests;

@@ -113,5 +113,3 @@ pub fn closes_with(
     Ok(false)
 }
 
-#[cfg(test)]
-mod tests;

@@ -190,5 +190,3 @@ fn fault_of(written: Result<(), WriteFault>) -> Result<(), LogFault>
     }
 }
 
-#[cfg(test)]
-mod tests;

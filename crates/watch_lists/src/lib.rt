@@ -29,8 +29,6 @@ use std::marker::Model;
 
 mod lists;
 mod row;
-#[cfg(test)]
-mod tests;
 mod watch;
 
 use crate::lists::WatchTable;
