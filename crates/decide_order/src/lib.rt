@@ -163,4 +163,3 @@ impl Order {
         Some(best)
     }
 }
-

@@ -132,4 +132,3 @@ fn phase_of(phases: &[bool], v: u32) -> Lit
     };
     Lit::from_code(code)
 }
-

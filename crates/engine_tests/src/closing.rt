@@ -3,9 +3,9 @@
 ghost use Rattle.std.specs.Prelude.{◌≡◌, ℕ, ◌≤◌, [], Contains, IfOk};
 ghost use Rattle.lits.specs.Literal.{var};
 
-use rup_check::{Tracer, closes, closes_with};
 use lits::Lit;
 use propagation::Engine;
+use rup_check::{Tracer, closes, closes_with};
 use session_rules::Ids;
 use std::alloc::{AllocError, Global};
 use std::test::Fail;

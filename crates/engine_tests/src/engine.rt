@@ -4,9 +4,9 @@ ghost use Rattle.std.specs.Prelude.{◌≡◌, ◌≤◌, [], IfOk};
 ghost use Rattle.lits.specs.Literal.{var};
 ghost use Rattle.propagation.specs.Engine.{no_engine, with_vars};
 
-use propagation::{Engine, law_of_forced_literals, law_of_places, law_of_trails};
 use clause_store::{Slot, StoreFault};
 use lits::Lit;
+use propagation::{Engine, law_of_forced_literals, law_of_places, law_of_trails};
 use std::alloc::{AllocError, Global};
 use std::test::Fail;
 

@@ -3,8 +3,8 @@
 ghost use Rattle.std.specs.Prelude.{◌≡◌, ◌≤◌, IfOk};
 ghost use Rattle.lits.specs.Literal.{var};
 
-use session_events::{Events, Kind};
 use lits::Lit;
+use session_events::{Events, Kind};
 use session_rules::{Event, Phase, Rule, StatusWord};
 use std::alloc::{AllocError, Global};
 use std::test::Fail;

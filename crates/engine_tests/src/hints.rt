@@ -5,8 +5,8 @@ ghost use Rattle.std.specs.FinMap as finmap;
 ghost use Rattle.lits.specs.Literal.{var};
 ghost use Rattle.clause_store.specs.Clauses.{ClauseEntry};
 
-use hint_check::{HintCheck, HintEnd};
 use clause_store::Store;
+use hint_check::{HintCheck, HintEnd};
 use lits::Lit;
 use std::alloc::{AllocError, Global};
 use std::test::Fail;

@@ -1,6 +1,6 @@
 // Clauses that come and go, and who is left in the lists.
-use occurrence_lists::Occurrences;
 use lits::Lit;
+use occurrence_lists::Occurrences;
 use std::test::Fail;
 
 #[test]

@@ -1,8 +1,8 @@
 // Entries that are added, changed and freed, and random calls held against a plain list.
+use crate::plain::Plain;
 use lit_pool::{Pool, Slot, Which};
 use lits::Lit;
 use std::alloc::{AllocError, Global};
-use crate::plain::Plain;
 use std::test::Fail;
 
 fn lit(n: i64) -> Result<Lit, Fail> {

@@ -1,6 +1,6 @@
 // A resolvent with a shared literal, a tautology, the same set in another order, and what is held after another clause.
-use resolvents::{Resolver, is_tautology_of};
 use lits::Lit;
+use resolvents::{Resolver, is_tautology_of};
 use std::test::Fail;
 
 #[test]

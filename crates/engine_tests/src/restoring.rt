@@ -2,8 +2,8 @@
 ghost use Rattle.std.specs.Prelude.{◌≡◌, ◌∷◌, [], IfOk};
 ghost use Rattle.lits.specs.Literal.{of_number, IsNumber};
 
-use restore::{Elim, ElimList, Kept, KeptList, Stack, Values};
 use lits::{Lit, Lits};
+use restore::{Elim, ElimList, Kept, KeptList, Stack, Values};
 use std::alloc::Global;
 use std::test::Fail;
 

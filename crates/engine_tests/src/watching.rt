@@ -5,9 +5,9 @@ ghost use Rattle.watch_lists.specs.Watched.{list_at};
 
 use clause_store::StoreFault;
 use lits::Lit;
-use watch_lists::Watches;
 use std::process::Abort;
 use std::test::Fail;
+use watch_lists::Watches;
 
 fn lit(n: i64) -> Result<Lit, Fail> {
     Ok(Lit::new(n).ok_or("no literal")?)

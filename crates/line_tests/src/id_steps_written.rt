@@ -1,6 +1,6 @@
 // The header and the line of each step, byte for byte.
-use lidrup_lines::{write_id, write_lemma, write_line};
 use icnf_lines::write_header;
+use lidrup_lines::{write_id, write_lemma, write_line};
 use lits::{Lit, Lits};
 use outside::MemorySink;
 use session_rules::{Id, Ids, LStep, StatusWord};

@@ -2,12 +2,12 @@
 
 ghost use Rattle.std.specs.Prelude.{◌≤◌};
 
-use step_log::StepLog;
 use lits::{Dense, Lit};
 use outside::{MemorySink, Sink};
 use session_rules::{Form, Log, LogFault};
 use std::alloc::{AllocError, Global};
 use std::test::Fail;
+use step_log::StepLog;
 
 // The literal of a number, or the default for a number that has none.
 fn lit(n: i64) -> Lit {

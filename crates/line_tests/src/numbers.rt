@@ -1,7 +1,7 @@
 // Two lists that are numbered, one that is looked up, and one with an unknown variable.
 
-use numbered_lits::Numbers;
 use lits::Lit;
+use numbered_lits::Numbers;
 use std::test::Fail;
 
 // The literal of a number, or the default for a number that has none.

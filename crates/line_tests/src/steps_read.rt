@@ -1,8 +1,8 @@
 // Texts that are read in pieces and written again, and broken lines with the rule of each.
 ghost use Rattle.std.specs.Prelude.{◌<◌};
 
-use idrup_lines::{read_line, write_line};
 use icnf_lines::read_header;
+use idrup_lines::{read_line, write_line};
 use line_reading::Spare;
 use outside::{MemorySink, MemorySource};
 use session_rules::{LineFault, Rule};

@@ -1,6 +1,6 @@
 // The header and the line of each step, byte for byte.
-use idrup_lines::{write_line, write_lits};
 use icnf_lines::write_header;
+use idrup_lines::{write_line, write_lits};
 use lits::{Lit, Lits};
 use outside::MemorySink;
 use session_rules::{Event, StatusWord, Step};

@@ -4,8 +4,8 @@ ghost use Rattle.std.specs.Io.{ReadsAtMost};
 ghost use Rattle.std.specs.Io.KnownBytes.{ReadConsumes};
 ghost use Rattle.outside.specs.Faults.{HasCause};
 
-use slice_tokens::{Token, TokenFault, Window};
 use outside::{Failed, MemorySource, Source};
+use slice_tokens::{Token, TokenFault, Window};
 use std::alloc::{AllocError, Global};
 use std::test::Fail;
 

@@ -22,4 +22,3 @@ mod window;
 
 pub use token::{Token, TokenFault};
 pub use window::Window;
-
