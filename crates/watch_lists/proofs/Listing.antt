@@ -188,7 +188,7 @@ listed_cut R f rows new places s p l i one fits k c place = record { here = here
               let more : i + 1 < length (watches_at rows l) = omega arith in
               let short : length (watches_at new l) + 1 ≡ length (watches_at rows l) = c.cut.shorter in
               let table_at : place_in (cut_places places (watches_at rows l) (f (last_in (watches_at rows l)).slot l) i) t q ≡ i =
-                  ap (λ z. place_in (cut_places places (watches_at rows l) (f (last_in (watches_at rows l)).slot l) i) z q) d.0 ∙ ap (place_in (cut_places places (watches_at rows l) (f (last_in (watches_at rows l)).slot l) i) (last_in (watches_at rows l)).slot) d.1 ∙ table.moved more in
+              ap (λ z. place_in (cut_places places (watches_at rows l) (f (last_in (watches_at rows l)).slot l) i) z q) d.0 ∙ ap (place_in (cut_places places (watches_at rows l) (f (last_in (watches_at rows l)).slot l) i) (last_in (watches_at rows l)).slot) d.1 ∙ table.moved more in
               subst (StandsIn new (cut_places places (watches_at rows l) (f (last_in (watches_at rows l)).slot l) i) t q) (sym list)
               (stands new (cut_places places (watches_at rows l) (f (last_in (watches_at rows l)).slot l) i) t q l i table_at (omega arith) (ap (λ z. z.slot) (c.cut.moved more) ∙ sym d.0))
           | inr ne ↦

@@ -51,8 +51,8 @@ last_of R m n rows places s l i k watching b fits lt slot more =
     let end : length (watches_at rows l) - 1 < length (watches_at rows l) = omega arith in
     let w = watching _ _ l (k.back l (length (watches_at rows l) - 1) end) in
     let apart : nat_eq s (last_in (watches_at rows l)).slot ≡ false = differs s (last_in (watches_at rows l)).slot (λ e.
-        let same : i ≡ length (watches_at rows l) - 1 = slots-apart R rows places l k i (length (watches_at rows l) - 1) lt end (slot ∙ e) in
-        absurd (omega arith)) in
+    let same : i ≡ length (watches_at rows l) - 1 = slots-apart R rows places l k i (length (watches_at rows l) - 1) lt end (slot ∙ e) in
+    absurd (omega arith)) in
     let lits = b.lits (last_in (watches_at rows l)).slot apart w.slot in
     record {
       listed = record { slot = b.slot (last_in (watches_at rows l)).slot apart w.slot; long = subst (λ ls. 2 ≤ length ls) (sym lits) w.long; fits = fits (id_at m (last_in (watches_at rows l)).slot) (last_in (watches_at rows l)).slot w.slot };

@@ -1,7 +1,6 @@
 -- A list has room for one entry more of each clause that has its literal and isn't in it.
-use Rattle.std.proofs.Common.{◌≡◌, ◌≢◌, ℕ, suc, zero, ◌<◌, ◌≤◌, List, [], ◌∷◌, length, Some, true, refl, sym, ap, ◌∙◌, subst, inl, inr, arith, eq-eqb}
-use Rattle.std.specs.Prelude.{slice_index}
-use Rattle.std.proofs.lemmas.Bool.{both_ways, false_from_ne_true}
+use Rattle.std.proofs.Common.{◌≡◌, ◌≢◌, ℕ, suc, zero, ◌<◌, ◌≤◌, List, [], ◌∷◌, length, Some, true, refl, sym, ap, ◌∙◌, subst, inl, inr, arith}
+use Rattle.std.proofs.lemmas.Bool.{false_from_ne_true}
 use Rattle.std.proofs.lemmas.Option.{same_Some}
 use Rattle.lits.specs.Clause.{has}
 use Rattle.clause_store.specs.Clauses.{Store, IsOnce, IsStore, slot_at}
@@ -10,7 +9,6 @@ use Rattle.watch_lists.specs.Watched.{entry_at}
 use Rattle.watch_lists.specs.Lists.{RowView, watches_at, count_at, id_at, lits_of, place_in, IsWatching, AreListed, HasRoom}
 use Rattle.watch_lists.proofs.Members.{member_cases, has-place}
 use Rattle.watch_lists.proofs.Placed.{lits-literals}
-use Rattle.watch_lists.proofs.FirstTwo.{firsts-apart, once-lits}
 
 -- ---- Different members
 
