@@ -124,11 +124,14 @@ module _ (m : Store) (rows : List RowView) (places : List ℕ) (s : ℕ) (kept :
         tied-two : watch_places m f.slot two ≡ 1
         tied-two = watching-tied m f.slot 1 two kept.stored (watching-second f.slot 1 two f_slot refl refl)
 
+        first-second : (q : ℕ) → q ≡ 1 → q ≡ 0 → ⊥
+        first-second q e g = omega arith
+
         absent2 : (k : ℕ) → Here1 f.slot 1 k → ⊥
         unfolding Here1
         absent2 k h = elim h [
           | inl x ↦ away 1 k (subst (λ z. IsHere (nat_eq s) m z 1 k) f_slot x)
-          | inr x ↦ let y : 1 ≡ 0 = x.1 in omega arith
+          | inr x ↦ first-second 1 refl x.1
         ]
 
         listed2 : AreListed Here2 (watch_places m) rows2 places2

@@ -10,7 +10,7 @@ use Rattle.lits.specs.Clause.{has}
 use Rattle.clause_store.specs.Clauses.{Store, IsOnce, IsStore, slot_at, kept_at, is_held, clause_at, with_place, swapped, lits_at, literals_at, with_swap}
 use Rattle.watch_lists.specs.Watch.{WatchView, no_watch, node_at}
 use Rattle.watch_lists.specs.Watched.{entry_at}
-use Rattle.watch_lists.specs.Lists.{RowView, no_row, row_at, watches_at, count_at, with_watches, IsCut, IsRowChanged, put_places, cut_places, last_in, id_at, lits_of, watch_places, IsWatching, IsHere, nobody, AreListed, AreBlockers, AreKept, IsListed, CanMove}
+use Rattle.watch_lists.specs.Lists.{RowView, no_row, row_at, watches_at, count_at, with_watches, IsCut, IsRowChanged, put_places, cut_places, last_in, id_at, lits_of, watch_places, IsWatching, IsHere, nobody, AreListed, AreBlockers, AreKept, IsPlaced, CanMove}
 use Rattle.watch_lists.proofs.Members.{has-place, differs}
 use Rattle.watch_lists.proofs.Placed.{id_at-slot, id_at-is, store-swapped, lits-literals}
 use Rattle.watch_lists.proofs.Putting.{places-put, slot-of-clause, held-active}
@@ -144,11 +144,11 @@ pub few : (m : Store) (rows : List RowView) (places : List ℕ) (l i k : ℕ) �
 few m rows places l i k can = room_enough (IsHere nobody m) m rows places l can.kept.stored can.kept.listed (λ t q a h. h.0) (can.kept.rooms l)
 
 -- the last entry of its list
-pub last-listed : (m : Store) (rows : List RowView) (places : List ℕ) (l i k : ℕ) → CanMove m rows places l i k → IsListed m places (last_in (watches_at rows l)).slot
-last-listed m rows places l i k can =
+pub last-placed : (m : Store) (rows : List RowView) (places : List ℕ) (l i k : ℕ) → CanMove m rows places l i k → IsPlaced m places (last_in (watches_at rows l)).slot l (length (watches_at rows l) - 1)
+last-placed m rows places l i k can =
     let within : i < length (watches_at rows l) = can.within in
     let w = (can.kept.listed.back l (length (watches_at rows l) - 1) (omega arith)).0 in
-    record { slot = w.slot; long = w.long; fits = can.kept.fits (id_at m (last_in (watches_at rows l)).slot) (last_in (watches_at rows l)).slot w.slot }
+    record { slot = w.slot; long = w.long; fits = can.kept.fits (id_at m (last_in (watches_at rows l)).slot) (last_in (watches_at rows l)).slot w.slot; here = can.kept.listed.placed l (length (watches_at rows l) - 1) (omega arith) }
 
 module _ (m : Store) (rows : List RowView) (places : List ℕ) (l i k : ℕ) (can : CanMove m rows places l i k) (s p : ℕ) (s_is : s ≡ (entry_at (watches_at rows l) i).slot) (p_is : p ≡ watch_places m s l) where
   kept : AreKept nobody m rows places

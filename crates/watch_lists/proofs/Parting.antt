@@ -7,7 +7,7 @@ use Rattle.clause_store.specs.Clauses.{Store, slot_at, kept_at}
 use Rattle.watch_lists.specs.declared.lists.Sides.{Sides}
 use Rattle.watch_lists.specs.Watch.{node_at}
 use Rattle.watch_lists.specs.Watched.{entry_at, watch_place}
-use Rattle.watch_lists.specs.Lists.{RowView, row_at, watches_at, count_at, IsCut, IsRowChanged, cut_places, last_in, id_at, lits_of, watch_places, IsWatching, IsHere, nobody, place_in, StandsIn, AreListed, AreKept, AreBeside, IsListed, CanPart}
+use Rattle.watch_lists.specs.Lists.{RowView, row_at, watches_at, count_at, IsCut, IsRowChanged, cut_places, last_in, id_at, lits_of, watch_places, IsWatching, IsHere, nobody, place_in, StandsIn, AreListed, AreKept, AreBeside, IsPlaced, CanPart}
 use Rattle.watch_lists.proofs.Members.{differs, unlike}
 use Rattle.watch_lists.proofs.FirstTwo.{firsts-apart, once-lits}
 use Rattle.watch_lists.proofs.Listing.{Cuts, listed_same, listed_cut, entries_cut, cuts_count}
@@ -41,12 +41,12 @@ parted-short m n rows places s sides can e = record {
     other t q l w a = both_ways _ short (le-leb 2 (length (lits_of m s)) (subst (λ z. 2 ≤ length (lits_of m z)) (sym a) w.long))
 
 -- the last entry of a list, where another is taken out
-record Last (m n : Store) (places : List ℕ) (l t : ℕ) : Type 0 where
-  pub listed : IsListed n places t
+record Last (m n : Store) (places : List ℕ) (l t at : ℕ) : Type 0 where
+  pub placed : IsPlaced n places t l at
   pub same : watch_places n t l ≡ watch_places m t l
 
-last_of : {f : ℕ → ℕ → ℕ} (R : ℕ → ℕ → ℕ → Type 0) (m n : Store) (rows : List RowView) (places : List ℕ) (s l i : ℕ) → AreListed R f rows places → ((t q a : ℕ) → R t q a → IsWatching m t q a) → AreBeside m n s → ((q t : ℕ) → slot_at m q ≡ Some t → node_at t 1 < length places)
-    → i < length (watches_at rows l) → (entry_at (watches_at rows l) i).slot ≡ s → i + 1 < length (watches_at rows l) → Last m n places l (last_in (watches_at rows l)).slot
+last_of : (R : ℕ → ℕ → ℕ → Type 0) (m n : Store) (rows : List RowView) (places : List ℕ) (s l i : ℕ) → AreListed R (watch_places m) rows places → ((t q a : ℕ) → R t q a → IsWatching m t q a) → AreBeside m n s → ((q t : ℕ) → slot_at m q ≡ Some t → node_at t 1 < length places)
+    → i < length (watches_at rows l) → (entry_at (watches_at rows l) i).slot ≡ s → i + 1 < length (watches_at rows l) → Last m n places l (last_in (watches_at rows l)).slot (length (watches_at rows l) - 1)
 last_of R m n rows places s l i k watching b fits lt slot more =
     let end : length (watches_at rows l) - 1 < length (watches_at rows l) = omega arith in
     let w = watching _ _ l (k.back l (length (watches_at rows l) - 1) end) in
@@ -54,9 +54,15 @@ last_of R m n rows places s l i k watching b fits lt slot more =
     let same : i ≡ length (watches_at rows l) - 1 = slots-apart R rows places l k i (length (watches_at rows l) - 1) lt end (slot ∙ e) in
     absurd (omega arith)) in
     let lits = b.lits (last_in (watches_at rows l)).slot apart w.slot in
+    let same : watch_places n (last_in (watches_at rows l)).slot l ≡ watch_places m (last_in (watches_at rows l)).slot l = ap (λ ls. watch_place ls l) lits in
     record {
-      listed = record { slot = b.slot (last_in (watches_at rows l)).slot apart w.slot; long = subst (λ ls. 2 ≤ length ls) (sym lits) w.long; fits = fits (id_at m (last_in (watches_at rows l)).slot) (last_in (watches_at rows l)).slot w.slot };
-      same = ap (λ ls. watch_place ls l) lits;
+      placed = record {
+        slot = b.slot (last_in (watches_at rows l)).slot apart w.slot;
+        long = subst (λ ls. 2 ≤ length ls) (sym lits) w.long;
+        fits = fits (id_at m (last_in (watches_at rows l)).slot) (last_in (watches_at rows l)).slot w.slot;
+        here = ap (place_in places (last_in (watches_at rows l)).slot) same ∙ k.placed l (length (watches_at rows l) - 1) end;
+      };
+      same = same;
     }
 
 module _ (m n : Store) (rows : List RowView) (places : List ℕ) (s : ℕ) (sides : Option Sides) (can : CanPart m n rows places s sides) (x : Sides) (some : sides ≡ Some x) where
@@ -108,11 +114,11 @@ module _ (m n : Store) (rows : List RowView) (places : List ℕ) (s : ℕ) (side
   slot-one : (entry_at (watches_at rows x.one) x.one_at).slot ≡ s
   slot-one = subst (λ z. (entry_at (watches_at rows x.one) z).slot ≡ s) (sym one_at_is) stands-first.slot
 
-  last-of-one : x.one_at + 1 < length (watches_at rows x.one) → Last m n places x.one (last_in (watches_at rows x.one)).slot
+  last-of-one : x.one_at + 1 < length (watches_at rows x.one) → Last m n places x.one (last_in (watches_at rows x.one)).slot (length (watches_at rows x.one) - 1)
   last-of-one more = last_of (IsHere nobody m) m n rows places s x.one x.one_at kept.listed (λ t q a h. h.0) can.beside kept.fits within-one slot-one more
 
-  pub last-one : x.one_at + 1 < length (watches_at rows x.one) → IsListed n places (last_in (watches_at rows x.one)).slot
-  last-one more = (last-of-one more).listed
+  pub last-one : x.one_at + 1 < length (watches_at rows x.one) → IsPlaced n places (last_in (watches_at rows x.one)).slot x.one (length (watches_at rows x.one) - 1)
+  last-one more = (last-of-one more).placed
 
   module _ (rows1 : List RowView) (places1 : List ℕ) (list1 : IsCut (watches_at rows x.one) (watches_at rows1 x.one) x.one_at) (row1 : IsRowChanged x.one rows rows1)
       (places1_are : places1 ≡ cut_places places (watches_at rows x.one) (watch_places n (last_in (watches_at rows x.one)).slot x.one) x.one_at) where
@@ -155,11 +161,11 @@ module _ (m n : Store) (rows : List RowView) (places : List ℕ) (s : ℕ) (side
     slot-two : (entry_at (watches_at rows1 x.two) x.two_at).slot ≡ s
     slot-two = subst (λ z. (entry_at z.watches x.two_at).slot ≡ s) (sym same-row) (subst (λ z. (entry_at (watches_at rows x.two) z).slot ≡ s) (sym two_at_is) stands-second.slot)
 
-    last-of-two : x.two_at + 1 < length (watches_at rows1 x.two) → Last m n places1 x.two (last_in (watches_at rows1 x.two)).slot
+    last-of-two : x.two_at + 1 < length (watches_at rows1 x.two) → Last m n places1 x.two (last_in (watches_at rows1 x.two)).slot (length (watches_at rows1 x.two) - 1)
     last-of-two more = last_of Here1 m n rows1 places1 s x.two x.two_at listed1 watching1 can.beside fits1 within-two slot-two more
 
-    pub last-two : x.two_at + 1 < length (watches_at rows1 x.two) → IsListed n places1 (last_in (watches_at rows1 x.two)).slot
-    last-two more = (last-of-two more).listed
+    pub last-two : x.two_at + 1 < length (watches_at rows1 x.two) → IsPlaced n places1 (last_in (watches_at rows1 x.two)).slot x.two (length (watches_at rows1 x.two) - 1)
+    last-two more = (last-of-two more).placed
 
     module _ (rows2 : List RowView) (places2 : List ℕ) (list2 : IsCut (watches_at rows1 x.two) (watches_at rows2 x.two) x.two_at) (row2 : IsRowChanged x.two rows1 rows2)
         (places2_are : places2 ≡ cut_places places1 (watches_at rows1 x.two) (watch_places n (last_in (watches_at rows1 x.two)).slot x.two) x.two_at) where

@@ -168,11 +168,12 @@ pub record AreBeside (m n : Store) (s : ℕ) : Type 0 where
   pub slot : (t : ℕ) → nat_eq s t ≡ false → slot_at m (id_at m t) ≡ Some t → slot_at n (id_at n t) ≡ Some t
   pub lits : (t : ℕ) → nat_eq s t ≡ false → slot_at m (id_at m t) ≡ Some t → lits_of n t ≡ lits_of m t
 
--- a slot is that of a clause of two literals or more, and its entries have places in the table
-pub record IsListed (m : Store) (places : List ℕ) (s : ℕ) : Type 0 where
+-- a slot is that of a clause of two literals or more, and its entry for a literal stands at this place of the literal's list
+pub record IsPlaced (m : Store) (places : List ℕ) (s l at : ℕ) : Type 0 where
   pub slot : slot_at m (id_at m s) ≡ Some s
   pub long : 2 ≤ length (lits_of m s)
   pub fits : node_at s 1 < length places
+  pub here : place_in places s (watch_places m s l) ≡ at
 
 -- these are the entries of a slot that can be taken out of its lists, also where the slot's clause has left the store
 pub record CanPart (m n : Store) (rows : List RowView) (places : List ℕ) (s : ℕ) (sides : Option Sides) : Type 0 where

@@ -8,7 +8,7 @@ ghost use Rattle.lits.specs.Clause.{has};
 ghost use Rattle.clause_store.specs.Clauses.{slot_at, with_swap, IsOnce, Store as Clauses};
 ghost use Rattle.watch_lists.specs.Watch.{node_at};
 ghost use Rattle.watch_lists.specs.Watched.{entry_at};
-ghost use Rattle.watch_lists.specs.Lists.{no_row, row_at, watches_at, count_at, with_watches, IsCut, IsRowChanged, put_places, cut_places, last_in, lits_of, id_at, watch_places, nobody, AreKept, AreRaised, AreLowered, AreBeside, IsListed, sides_in, CanPart, CanMove};
+ghost use Rattle.watch_lists.specs.Lists.{no_row, row_at, watches_at, count_at, with_watches, IsCut, IsRowChanged, put_places, cut_places, last_in, lits_of, id_at, watch_places, nobody, AreKept, AreRaised, AreLowered, AreBeside, IsPlaced, sides_in, CanPart, CanMove};
 
 use crate::row::Row;
 use crate::watch::Watch;
@@ -101,6 +101,24 @@ fn place_of(store: &Store, s: Slot, l: Lit) -> usize
     if store.lits(s)[0] == l { 0 } else { 1 }
 }
 
+/// The same for an entry that stands at this place of the list. Mostly the table of places tells it, without a look at the
+/// clause, which lies elsewhere.
+#[inline(always)]
+fn place_of_entry(places: &Vec<u32>, store: &Store, s: Slot, l: Lit, at: usize) -> usize
+    requires { IsPlaced store.now places.now.items s l at }
+    ensures is { result ≡ watch_places store.now s l }
+    ensures low { result ≤ 1 }
+{
+    let node = 2 * s.number() as usize;
+    if places[node] as usize != at {
+        return 1;
+    }
+    if places[node + 1] as usize != at {
+        return 0;
+    }
+    place_of(store, s, l)
+}
+
 impl WatchTable {
     /// No list, and no place.
     pub(crate) fn new(alloc: Global) -> WatchTable
@@ -133,7 +151,7 @@ impl WatchTable {
         requires within { i < length (watches_at self.old.rows.items l) }
         requires reserved { l < length self.old.rows.items }
         requires few { length (watches_at self.old.rows.items l) ≤ count_at self.old.rows.items l }
-        requires last { i + 1 < length (watches_at self.old.rows.items l) → IsListed store.now self.old.places.items (last_in (watches_at self.old.rows.items l)).slot }
+        requires last { let es = watches_at self.old.rows.items l in i + 1 < length es → IsPlaced store.now self.old.places.items (last_in es).slot l (length es - 1) }
         ensures list { IsCut (watches_at self.old.rows.items l) (watches_at self.new.rows.items l) i }
         ensures rows { IsRowChanged l self.old.rows.items self.new.rows.items }
         ensures places { let es = watches_at self.old.rows.items l in self.new.places.items ≡ cut_places self.old.places.items es (watch_places store.now (last_in es).slot l) i }
@@ -141,7 +159,8 @@ impl WatchTable {
         let row = &mut self.rows[l.code() as usize];
         if let Some(last) = row.cut(i) {
             let slot = last.slot();
-            let place = place_of(store, slot, l);
+            let at = row.list().len();
+            let place = place_of_entry(&self.places, store, slot, l, at);
             self.places[2 * slot.number() as usize + place] = i as u32;
         }
     }

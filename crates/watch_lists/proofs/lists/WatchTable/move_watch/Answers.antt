@@ -1,6 +1,6 @@
 use Rattle.std.proofs.Common.{refl, ap, ◌∙◌}
 use Rattle.watch_lists.specs.Lists.{id_at, watch_places}
-use Rattle.watch_lists.proofs.Moving.{entry-read, last-listed, slot-known, long-known, within-other, within-left, within-joined, few, reserved-joined, room-joined, fits-moved, moved-kept, moved-front}
+use Rattle.watch_lists.proofs.Moving.{entry-read, last-placed, slot-known, long-known, within-other, within-left, within-joined, few, reserved-joined, room-joined, fits-moved, moved-kept, moved-front}
 use Rattle.watch_lists.proofs.lists.WatchTable.move_watch.Goals as goal
 
 pub place_of-place-requires-clause-slot : goal.place_of-place-requires-clause-slot
@@ -27,7 +27,7 @@ pub cut-requires-clause-few : goal.cut-requires-clause-few
 cut-requires-clause-few c = few c.args.store.now c.args.self.now.rows.items c.args.self.now.places.items c.args.l c.args.i c.args.k c.requires
 
 pub cut-requires-clause-last : goal.cut-requires-clause-last
-cut-requires-clause-last c = λ more. last-listed c.args.store.now c.args.self.now.rows.items c.args.self.now.places.items c.args.l c.args.i c.args.k c.requires
+cut-requires-clause-last c = λ more. last-placed c.args.store.now c.args.self.now.rows.items c.args.self.now.places.items c.args.l c.args.i c.args.k c.requires
 
 pub swap-requires-clause-slot : goal.swap-requires-clause-slot
 swap-requires-clause-slot c =
