@@ -21,7 +21,7 @@ use std::alloc::{AllocError, Global};
 pub(crate) struct WatchTable {
     // for each literal by its code
     pub(crate) rows: Vec<Row>,
-    // for each slot by its number: that of the entry for the first place, and that of the entry for the second
+    // where entries stand: that of a slot's first place at twice the slot's number, and that of its second behind it
     pub(crate) places: Vec<u32>,
 }
 
