@@ -2,6 +2,7 @@
 #![tactic(auto)]
 
 mod checking;
+mod conversion;
 mod idrup;
 mod lidrup;
 mod literals;
@@ -12,5 +13,6 @@ mod tests;
 mod turns;
 
 pub use checking::{CheckFault, check_pair};
+pub use conversion::Converted;
 pub use idrup::IdrupSide;
 pub use lidrup::LidrupSide;
