@@ -2,6 +2,7 @@
 #![tactic(auto)]
 
 mod checking;
+mod conversion;
 mod idrup;
 mod lidrup;
 mod literals;
@@ -10,5 +11,6 @@ mod strangers;
 mod turns;
 
 pub use checking::{CheckFault, check_pair};
+pub use conversion::Converted;
 pub use idrup::IdrupSide;
 pub use lidrup::LidrupSide;
