@@ -97,16 +97,16 @@ fn a_freed_piece_serves_a_later_entry(rt: HostRuntime) -> Result<(), Fail> {
     assert_eq!(rt; d, a);
     assert_eq!(rt; pool.link(d, Which::One), None);
     assert_eq!(rt; pool.lits(d).len(), 4);
-    // one unit for a list of at most 4 literals, and 128 for one of 509 to 1,020
-    assert_eq!(rt; pool.kinds.len(), 129);
     assert!(rt; pool.is_live(c));
     pool.free(c);
-    // 8 units for a list of 60, so 16 of them have the units of the one that was freed
+    // one unit for a list of at most 4 literals, 128 for one of 509 to 1,020, and 8 for one of 60: so 16 of these have the units of
+    // the one that was freed
     let sixty = many(alloc, 60)?;
     let mut shorter = Vec::new(alloc);
     for _ in 0..16 {
-        shorter.push(pool.add(&sixty)?)?;
-        assert_eq!(rt; pool.kinds.len(), 129);
+        let s = pool.add(&sixty)?;
+        assert!(rt; s.number() < 129);
+        shorter.push(s)?;
     }
     for s in &shorter {
         assert!(rt; pool.is_live(*s) && pool.lits(*s) == sixty.as_slice());
@@ -114,7 +114,7 @@ fn a_freed_piece_serves_a_later_entry(rt: HostRuntime) -> Result<(), Fail> {
     let longest = many(alloc, 20_000)?;
     let e = pool.add(&longest)?;
     assert!(rt; pool.lits(e) == longest.as_slice());
-    assert_eq!(rt; pool.kinds.len(), 129 + 4096);
+    assert_eq!(rt; e.number(), 129);
     Ok(())
 }
 
@@ -135,7 +135,7 @@ fn freed_pieces_side_by_side_serve_a_long_entry(rt: HostRuntime) -> Result<(), F
     let long = many(alloc, 900)?;
     let s = pool.add(&long)?;
     assert!(rt; pool.lits(s) == long.as_slice());
-    assert_eq!(rt; pool.kinds.len(), 128);
+    assert!(rt; s.number() < 128);
     Ok(())
 }
 
@@ -248,6 +248,10 @@ fn the_pool_does_what_a_plain_list_does(rt: HostRuntime) -> Result<(), Fail> {
     }
     assert!(rt; entries.len() > 10);
     // some 750 entries were added, of about 7 units in the middle: without those that were freed there would be over 5,000
-    assert!(rt; pool.kinds.len() < 3500);
+    let last = pool.add(&long)?;
+    assert!(rt; last.number() < 3500);
+    for entry in &entries {
+        assert!(rt; entry.slot.number() < 3500);
+    }
     Ok(())
 }
