@@ -5,7 +5,7 @@ use Rattle.std.specs.declared.result.Result.{Result}
 use Rattle.std.specs.Io.KnownBytes.{Appends, Keeps}
 use Rattle.std.proofs.lemmas.List.{length-append}
 use Rattle.outside.specs.Streams.{AppendsPart}
-use Rattle.outside.proofs.Known.{Appends-join, AppendsPart-whole, AppendsPart-after}
+use Rattle.outside.proofs.Known.{Appends_none, Appends-join, AppendsPart-whole, AppendsPart-after}
 use Rattle.session_rules.specs.declared.Form.TheVariants.{Idrup, Lidrup}
 use Rattle.session_rules.specs.declared.Phase.{Phase}
 use Rattle.session_rules.specs.declared.Phase.TheVariants.{Idle, Asked, Told}
@@ -13,8 +13,10 @@ use Rattle.session_rules.specs.declared.Rule.{Rule}
 use Rattle.session_rules.specs.declared.Rule.TheVariants as rules
 use Rattle.session_rules.specs.declared.Step.{Step}
 use Rattle.session_rules.specs.declared.LStep.{LStep}
+use Rattle.session_rules.specs.declared.LineFault.{LineFault}
 use Rattle.session_rules.specs.declared.Verdict.TheVariants.{Accepted}
-use Rattle.session_rules.specs.Lines.{Line, end_line, most_bytes}
+use Rattle.session_rules.specs.Lines as source_lines
+use Rattle.session_rules.specs.Lines.{end_line, most_bytes}
 use Rattle.session_rules.specs.Reading.{idrup_line, header_fault}
 use Rattle.session_rules.specs.Spelling.{header_words, line_text, id_step_words}
 use Rattle.session_rules.specs.History.{phase}
@@ -24,7 +26,8 @@ use Rattle.session_rules.specs.Verdicts.{steps_in, own_verdict}
 use Rattle.session_rules.proofs.LeastFault.{own_verdict_none, accepted_own}
 use Rattle.slice_tokens.specs.Place.{Place, WhereTold, later, last_line}
 use Rattle.slice_tokens.specs.Calls.{AtEnd}
-use Rattle.line_reading.specs.Whole.{Says, Breaks, BehindCut}
+use Rattle.line_reading.specs.Whole.{Says, Breaks, BehindCut, LineAnswers}
+use Rattle.line_reading.proofs.Joined.{told_then}
 use Rattle.line_writing.specs.Writing as writing
 use Rattle.line_writing.specs.Writing.{Writer, FailedLine, RefusedLine}
 use Rattle.elimination_laws.specs.Accepted.{proof_text}
@@ -36,10 +39,13 @@ use Rattle.conversion_laws.proofs.Judging.{header_decides, judging_begins, judgi
 use Rattle.conversion_laws.proofs.First.{judged_are_first}
 use Rattle.conversion_laws.proofs.Alike.{accepted_alike}
 use Rattle.pair_matcher.specs.Sides.{IdrupView, StandsFor, first_rule}
-use Rattle.pair_matcher.specs.Conversion.{Becomes}
+use Rattle.pair_matcher.specs.declared.conversion.Converted.{Converted}
+use Rattle.pair_matcher.specs.declared.conversion.Converted.TheVariants.{Broken, Line}
+use Rattle.pair_matcher.specs.Conversion.{Becomes, IfLine, rule_broken}
 use Rattle.pair_matcher.specs.Checks.{IsBehindHeader}
 use Rattle.pair_matcher.proofs.CutLines.{not_behind_cut, cut_behind}
 use Rattle.hint_converter.specs.declared.converting.ConvertEnd.{ConvertEnd}
+use Rattle.hint_converter.specs.declared.converting.ConvertEnd.TheVariants.{Refused}
 use Rattle.hint_converter.specs.Targets.{HoldsText, IsDone, HoldsKept, IsRefused, HoldsPart, IsExhausted, Ends}
 use Rattle.hint_converter.specs.Turns.{IsWritten, ReadsOn, Converting, AtStep, AtLine, end_of}
 
@@ -73,7 +79,7 @@ module _ (source : List ℕ) (kept : List Step) (room lines : ℕ) (before now :
   refused_here : (line : ℕ) (rule : Rule) → header_fault (codes "idrup") source ≡ None → (own_verdict Idrup source ≡ Some (line, rule)) × (kept_steps Idrup source ≡ kept) → IsRefused source before now line rule
   refused_here line rule spelled d = record { first_fault = d.0; holds = holds_kept spelled d.1; never = never_of source line rule d.0 }
 
-  part_here : (left : List Line) → IsJudged Idrup source kept left → HoldsPart source before now
+  part_here : (left : List source_lines.Line) → IsJudged Idrup source kept left → HoldsPart source before now
   part_here left j = let r = judged_are_first Idrup source kept left j in record {
     kept = kept;
     more = r.0;
@@ -130,6 +136,17 @@ nothing_yet window source rest before now part h = record {
   steps = [];
   converted = tt;
   wrote = part;
+}
+
+-- nothing was written
+pub untouched : (source : List ℕ) (before : Option (List ℕ)) → HoldsPart source before before
+untouched source before = record {
+  kept = [];
+  more = kept_steps Idrup source;
+  first = refl;
+  steps = [];
+  converted = tt;
+  wrote = record { count = 0; within = omega arith; bytes = Appends_none before };
 }
 
 pub header_failed : {K : Type 0} (window : Place) (source rest : List ℕ) (old new : Writer K) → FailedLine (line_text (header_words (codes "lidrup"))) old new → IsBehindHeader (codes "idrup") source window rest → HoldsPart source old.written new.written
@@ -202,6 +219,28 @@ module _ (v : IdrupView) (room lines : ℕ) (before now : Option (List ℕ)) (so
     pub part_at_step : HoldsPart source before now
     part_at_step = part_here source a.kept room lines before now a.target (a.line ∷ later q u) a.judged
 
+-- a step that was judged becomes this line
+pub line_known : (v w : IdrupView) (room lines : ℕ) (before now : Option (List ℕ)) (q : Place) (source u : List ℕ) (step : Step) (line : LStep) (o : Converted) → o ≡ Line line
+    → ((ps : List Step) → StandsFor v ps → rule_broken o ≡ first_rule (own_faults ps step)) → IfNone (rule_broken o) ((ps : List Step) → StandsFor v ps → StandsFor w (ps ++ step ∷ []))
+    → IfLine o (Becomes v step) → AtStep step v room lines before now q source u → AtLine line w room lines before now q source u
+line_known v w room lines before now q source u step line o is rule stands b a = own_kept v room lines before now source q u step a w line
+    (λ ps s. ap rule_broken (sym is) ∙ rule ps s)
+    (subst (λ z. IfNone (rule_broken z) ((ps : List Step) → StandsFor v ps → StandsFor w (ps ++ step ∷ []))) is stands)
+    (subst (λ z. IfLine z (Becomes v step)) is b)
+
+-- a step that was judged breaks this rule
+pub step_refused : (v : IdrupView) (room lines : ℕ) (before now : Option (List ℕ)) (q : Place) (source u : List ℕ) (step : Step) (rule : Rule) (o : Converted) (e : ConvertEnd) → o ≡ Broken rule
+    → ((ps : List Step) → StandsFor v ps → rule_broken o ≡ first_rule (own_faults ps step)) → e ≡ Refused q.line rule → AtStep step v room lines before now q source u → Ends (Ok e) before now source
+step_refused v room lines before now q source u step rule o e is f same a = subst (λ z. Ends (Ok z) before now source) (sym same)
+    (own_broken v room lines before now source q u step a rule (λ ps s. ap rule_broken (sym is) ∙ f ps s))
+
+-- what was known before a line is known behind its answer
+pub turn_by : (whole a b before now : Option (List ℕ)) (v : IdrupView) (room lines : ℕ) (p q : Place) (result r : Result (Option Step) LineFault) → result ≡ r → (R : List ℕ → List ℕ → Type 0)
+    → WhereTold whole a (Converting v room lines before now p) → WhereTold a b (λ t u. LineAnswers idrup_line p t q u result)
+    → ((source t u : List ℕ) → Converting v room lines before now p source t → LineAnswers idrup_line p t q u r → R source u) → WhereTold whole b R
+turn_by whole a b before now v room lines p q result r is R h told step = told_then whole a b (Converting v room lines before now p) (λ t u. LineAnswers idrup_line p t q u r) R h
+    (subst (λ z. WhereTold a b (λ t u. LineAnswers idrup_line p t q u z)) is told) step
+
 -- ---- A line is written
 
 module _ {K : Type 0} (line : LStep) (v : IdrupView) (lines : ℕ) (before : Option (List ℕ)) (q : Place) (source u : List ℕ) (old new : Writer K)
@@ -259,6 +298,10 @@ module _ {K : Type 0} (line : LStep) (v : IdrupView) (lines : ℕ) (before : Opt
     wrote = subst (λ z. Appends before z (proof_text Lidrup (a.target).steps)) same (a.target).wrote;
     overfull = let e = (a.target).left in let lt = r.longer in omega (arith, e, lt);
   }
+
+  -- a refused line leaves the sink, and so its bytes
+  pub line_exhausted : (written : K → Option (List ℕ)) → old.written ≡ written old.sink → new.written ≡ written new.sink → RefusedLine (line_text (id_step_words line)) old new → IsExhausted source before new.written
+  line_exhausted written was is r = line_refused (was ∙ ap written (sym r.same) ∙ sym is) r
 
 -- ---- Line by line
 
