@@ -1,6 +1,6 @@
 -- What each part of a conversion says of the source, and what it leaves of the target.
-use Rattle.std.proofs.Common.{◌≡◌, ℕ, ◌+◌, ◌^◌, ◌<◌, ◌≤◌, ◌⊎◌, List, [], ◌∷◌, ◌++◌, length, Option, Some, None, Ok, Err, refl, sym, ap, ◌∙◌, subst, inl, inr, arith, append-nil, append_assoc}
-use Rattle.std.specs.Prelude.{codes, IfOk, IfNone}
+use Rattle.std.proofs.Common.{◌≡◌, ℕ, ◌+◌, ◌^◌, ◌<◌, ◌≤◌, ◌⊎◌, List, [], ◌∷◌, ◌++◌, length, Option, Some, None, Ok, refl, sym, ap, ◌∙◌, subst, inl, inr, arith, append-nil, append_assoc}
+use Rattle.std.specs.Prelude.{codes, IfNone}
 use Rattle.std.specs.declared.result.Result.{Result}
 use Rattle.std.specs.Io.KnownBytes.{Appends, Keeps}
 use Rattle.std.proofs.lemmas.List.{length-append}
@@ -24,14 +24,14 @@ use Rattle.session_rules.specs.Own.{events_of, own_faults}
 use Rattle.session_rules.specs.Pair.{verdict}
 use Rattle.session_rules.specs.Verdicts.{steps_in, own_verdict}
 use Rattle.session_rules.proofs.LeastFault.{own_verdict_none, accepted_own}
-use Rattle.slice_tokens.specs.Place.{Place, WhereTold, later, last_line}
+use Rattle.slice_tokens.specs.Place.{Place, WhereTold, later}
 use Rattle.slice_tokens.specs.Calls.{AtEnd}
 use Rattle.line_reading.specs.Whole.{Says, Breaks, BehindCut, LineAnswers}
 use Rattle.line_reading.proofs.Joined.{told_then}
 use Rattle.line_writing.specs.Writing as writing
 use Rattle.line_writing.specs.Writing.{Writer, FailedLine, RefusedLine}
 use Rattle.elimination_laws.specs.Accepted.{proof_text}
-use Rattle.conversion_laws.specs.Converted.{IsConvertedStep, IsConverted}
+use Rattle.conversion_laws.specs.Converted.{IsConverted}
 use Rattle.conversion_laws.specs.Judged.{IsJudged, kept_steps}
 use Rattle.conversion_laws.proofs.Growing.{conversion_grows}
 use Rattle.conversion_laws.proofs.Fitting.{text_grows, conversion_fits}
@@ -47,7 +47,7 @@ use Rattle.pair_matcher.proofs.CutLines.{not_behind_cut, cut_behind}
 use Rattle.hint_converter.specs.declared.converting.ConvertEnd.{ConvertEnd}
 use Rattle.hint_converter.specs.declared.converting.ConvertEnd.TheVariants.{Refused}
 use Rattle.hint_converter.specs.Targets.{HoldsText, IsDone, HoldsKept, IsRefused, HoldsPart, IsExhausted, Ends}
-use Rattle.hint_converter.specs.Turns.{IsWritten, ReadsOn, Converting, AtStep, AtLine, end_of}
+use Rattle.hint_converter.specs.Turns.{IsWritten, Converting, AtStep, AtLine, end_of}
 
 -- ---- Small words
 

@@ -7,7 +7,5 @@
 #![tactic(auto)]
 
 mod converting;
-#[cfg(test)]
-mod tests;
 
 pub use converting::{ConvertEnd, ConvertFault, convert};

@@ -1,5 +1,4 @@
 use Rattle.std.proofs.Common.{Err, sym, ap, subst}
-use Rattle.session_rules.specs.declared.WriteFault.TheVariants as written
 use Rattle.session_rules.specs.Spelling.{line_text, id_step_words}
 use Rattle.line_writing.specs.Writing.{writer, WritesLine, FailedLine, RefusedLine}
 use Rattle.hint_converter.proofs.Lines.{line_wrote, line_failed, line_refused}
