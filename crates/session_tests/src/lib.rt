@@ -6,6 +6,8 @@ mod causes;
 #[cfg(test)]
 mod chains;
 #[cfg(test)]
+mod conversions;
+#[cfg(test)]
 mod cuts;
 #[cfg(test)]
 mod pairs;
