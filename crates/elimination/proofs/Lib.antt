@@ -10,3 +10,9 @@ pub mod Boarding
 pub mod Listed
 pub mod Admitting
 pub mod Modelling
+pub mod Standings
+pub mod Changing
+pub mod Leading
+pub mod Stepping
+pub mod Restored
+pub mod Told

@@ -4,3 +4,5 @@ pub mod Calls
 pub mod Pairs
 pub mod Known
 pub mod Inside
+pub mod Databases
+pub mod Restoring

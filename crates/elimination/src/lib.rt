@@ -10,7 +10,9 @@
 
 mod asked;
 mod board;
+mod database;
 mod eligible;
+mod fault;
 mod id_set;
 mod known;
 mod laws;
@@ -18,12 +20,15 @@ mod listing;
 mod pairs;
 #[cfg(test)]
 mod tests;
+mod touching;
 
 pub use asked::would_be_eligible;
 pub use board::Board;
 pub use eligible::{is_eligible, is_eligible_on};
+pub use fault::BoardFault;
 pub use known::is_known;
 pub use laws::{
-    boards_are_searched, lists_decide_eligibility, own_clauses_decide, told_steps_join,
+    boards_are_searched, lists_decide_eligibility, own_clauses_decide, restorings_are_due,
+    told_steps_join,
 };
 pub use pairs::{has_few_resolvents, may_go};
