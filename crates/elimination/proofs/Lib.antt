@@ -16,3 +16,4 @@ pub mod Leading
 pub mod Stepping
 pub mod Restored
 pub mod Told
+pub mod Bringing

@@ -14,7 +14,7 @@ returns-then-is_err-clause-broken g c = told_at g.L.Log.takes g.L.Log.refuses (s
 
 pub list_clause-listed-requires-clause-limit : goal.list_clause-listed-requires-clause-limit
 list_clause-listed-requires-clause-limit g c =
-    let t = g.L.laws.taken_room c.args.log.now (told.Lemma c.args.self.now.next_id c.args.lits.now c.args.hints.now) c.lemma.new.self c.in_default.ensures.ok in
+    let t = g.met.L.Log.taken_room c.args.log.now (told.Lemma c.args.self.now.next_id c.args.lits.now c.args.hints.now) c.lemma.new.self c.in_default.ensures.ok in
     let p = told_some (g.L.Log.form c.args.log.now) (g.L.Log.names c.args.log.now) (told.Lemma c.args.self.now.next_id c.args.lits.now c.args.hints.now) in
     let r = c.requires.room in omega (arith, t, p, r)
 
@@ -40,7 +40,7 @@ returns-clause-leads g c =
 pub returns-clause-sound : goal.returns-clause-sound
 returns-clause-sound g c =
     let a = some_ok (λ s. c.add.new.self ≡ with_added c.args.self.now.engine c.args.self.now.next_id c.args.lits.now s) c.add.result (sym c.is_err.ensures.value ∙ c.if-is_err.false) c.add.ensures.ok in
-    let t = g.L.laws.taken_room c.args.log.now (told.Lemma c.args.self.now.next_id c.args.lits.now c.args.hints.now) c.lemma.new.self c.in_default.ensures.ok in
+    let t = g.met.L.Log.taken_room c.args.log.now (told.Lemma c.args.self.now.next_id c.args.lits.now c.args.hints.now) c.lemma.new.self c.in_default.ensures.ok in
     let p = told_some (g.L.Log.form c.args.log.now) (g.L.Log.names c.args.log.now) (told.Lemma c.args.self.now.next_id c.args.lits.now c.args.hints.now) in
     let r = c.requires.room in
     lemma_sound c.args.self.now c.requires.sound c.args.lits.now c.args.hints.now c.requires.due c.requires.clean c.requires.reserved c.add.new.self a.0 a.1
@@ -50,6 +50,6 @@ returns-clause-sound g c =
 
 pub returns-clause-room : goal.returns-clause-room
 returns-clause-room g c =
-    let t = g.L.laws.taken_room c.args.log.now (told.Lemma c.args.self.now.next_id c.args.lits.now c.args.hints.now) c.lemma.new.self c.in_default.ensures.ok in
+    let t = g.met.L.Log.taken_room c.args.log.now (told.Lemma c.args.self.now.next_id c.args.lits.now c.args.hints.now) c.lemma.new.self c.in_default.ensures.ok in
     let p = told_some (g.L.Log.form c.args.log.now) (g.L.Log.names c.args.log.now) (told.Lemma c.args.self.now.next_id c.args.lits.now c.args.hints.now) in
     let r = c.requires.room in omega (arith, t, p, r)
