@@ -17,3 +17,4 @@ pub mod Stepping
 pub mod Restored
 pub mod Told
 pub mod Bringing
+pub mod Returning

@@ -15,11 +15,11 @@ use Rattle.elimination.specs.Restoring.{ids_of, kept_of, restoring, restorings, 
 -- ---- Lists without repeats
 
 module _ {X : Type 0} (P : X → Type 0) where
-  all_rec_at : (xs : List X) → AllByRecursion P xs → (x : X) → Contains xs x → P x
+  pub all_rec_at : (xs : List X) → AllByRecursion P xs → (x : X) → Contains xs x → P x
   all_rec_at [] a x m = absurd (not_in_nil x m)
   all_rec_at (y ∷ xs) a x m = elim (here_or_there y x xs m) [ inl e ↦ subst P e a.0 | inr n ↦ all_rec_at xs a.1 x n ]
 
-  all_rec_from : (xs : List X) → ((x : X) → Contains xs x → P x) → AllByRecursion P xs
+  pub all_rec_from : (xs : List X) → ((x : X) → Contains xs x → P x) → AllByRecursion P xs
   all_rec_from [] h = tt
   all_rec_from (x ∷ xs) h = (h x (here x xs), all_rec_from xs (λ y m. h y (there x y xs m)))
 

@@ -7,13 +7,18 @@ use Rattle.session_rules.specs.declared.Told.{Told}
 use Rattle.session_rules.specs.declared.LogFault.{LogFault}
 use Rattle.propagation.specs.Clauses.{literals_at}
 use Rattle.propagation.specs.Engine.{level_after}
+use Rattle.restore.specs.declared.lists.Elim.{Elim}
 use Rattle.elimination_laws.specs.Eligible.{how_many}
 use Rattle.elimination.specs.declared.database.Database.{Database}
 use Rattle.elimination.specs.declared.fault.BoardFault.{BoardFault}
 use Rattle.elimination.specs.declared.fault.BoardFault.TheVariants as faults
-use Rattle.elimination.specs.Boards.{AreIrredundant}
+use Rattle.elimination.specs.Boards.{BoardView, AreIrredundant}
 use Rattle.elimination.specs.Known.{AreListedBy}
 use Rattle.elimination.specs.Steps.{TakesEach, Standing, steps_of, standing, after_steps, IsDue, AreDue, NumbersLemmas}
+
+-- the board of clauses, a stack and inputs
+abbrev pub board_of : Database → List Elim → List (List ℕ) → BoardView
+board_of d stack inputs = record { engine = d.engine; irredundant = d.irredundant; stack = stack; inputs = inputs; next_id = d.next_id }
 
 -- the irredundant clauses
 abbrev pub irredundant_of : Database → List (List ℕ)
