@@ -286,6 +286,3 @@ impl Store {
         self.pool.set_link(s, which, to);
     }
 }
-
-#[cfg(test)]
-mod tests;

@@ -345,6 +345,3 @@ pub fn analyze(
     hints.reverse();
     Ok(level_of_second(engine, lemma))
 }
-
-#[cfg(test)]
-mod tests;

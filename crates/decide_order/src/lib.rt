@@ -163,6 +163,3 @@ impl Order {
         Some(best)
     }
 }
-
-#[cfg(test)]
-mod tests;

@@ -132,6 +132,3 @@ fn phase_of(phases: &[bool], v: u32) -> Lit
     };
     Lit::from_code(code)
 }
-
-#[cfg(test)]
-mod tests;

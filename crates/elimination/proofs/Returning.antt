@@ -85,7 +85,7 @@ single_chosen p (e ∷ es) d = let r = single_chosen p es d.1 in elim (cases_Boo
 
 -- ---- The clauses that restorings give
 
-lists_of : List Kept → List (List ℕ)
+abbrev lists_of : List Kept → List (List ℕ)
 lists_of ks = map (λ (k : Kept). k.lits) ks
 
 none_weakened : (ks : List Kept) → filter_map weakened_clause (steps_of (restorings ks)) ≡ []
@@ -93,19 +93,16 @@ none_weakened [] = refl
 none_weakened (k ∷ ks) = none_weakened ks
 
 added_lists : (ks : List Kept) → filter_map added_clause (steps_of (restorings ks)) ≡ lists_of ks
-unfolding lists_of
 added_lists [] = refl
 added_lists (k ∷ ks) = ap (λ z. k.lits ∷ z) (added_lists ks)
 
 stacked_lists : (es : List Elim) → lists_of (kept_of es) ≡ stacked es
-unfolding lists_of
 stacked_lists [] = refl
 stacked_lists (e ∷ es) = split e.clauses (kept_of es) ∙ ap (λ z. clauses_of e ++ z) (stacked_lists es)
   where
-    split : (as2 bs : List Kept) → lists_of (as2 ++ bs) ≡ lists_of as2 ++ lists_of bs
-    unfolding lists_of
+    split : (js bs : List Kept) → lists_of (js ++ bs) ≡ lists_of js ++ lists_of bs
     split [] bs = refl
-    split (k ∷ as2) bs = ap (λ z. k.lits ∷ z) (split as2 bs)
+    split (k ∷ js) bs = ap (λ z. k.lits ∷ z) (split js bs)
 
 all_clean : (cs : List (List ℕ)) → ((c : List ℕ) → Contains cs c → is_tautology c ≡ false) → no_tautologies cs ≡ cs
 all_clean [] h = refl
@@ -233,7 +230,6 @@ module _ (d : Database) (stack : List Elim) (inputs : List (List ℕ)) (h : IsBo
     }
 
     clean_lists : (c : List ℕ) → Contains (lists_of ks) c → is_tautology c ≡ false
-    unfolding lists_of
     clean_lists c m = let k = map_at (λ (k : Kept). k.lits) ks c m in ap is_tautology (sym k.2) ∙ copies_in.clean k.0 (kept_chosen (λ (e : Elim). w e.var) stack k.0 k.1)
 
     left_touched : IsTouched (board_of d stack inputs) lits (restorings ks) new

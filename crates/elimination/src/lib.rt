@@ -18,8 +18,6 @@ mod known;
 mod laws;
 mod listing;
 mod pairs;
-#[cfg(test)]
-mod tests;
 mod touching;
 
 pub use asked::would_be_eligible;

@@ -266,6 +266,3 @@ impl HintCheck {
         )
     }
 }
-
-#[cfg(test)]
-mod tests;

@@ -11,9 +11,6 @@ use outside::Source;
 use session_rules::{LineFault, Rule};
 use slice_tokens::{TokenFault, Window};
 
-#[cfg(test)]
-mod tests;
-
 /// Why a header wasn't read.
 #[derive(Clone, Copy, Debug, PartialEq, Eq)]
 pub enum HeaderFault {

@@ -14,9 +14,6 @@ ghost use Rattle.icnf_lines.specs.NextLine.{NextMatched};
 ghost use Rattle.icnf_lines.specs.Parts.{whole_letter};
 ghost use Rattle.icnf_lines.specs.Partners as partners;
 
-#[cfg(test)]
-mod tests;
-
 use crate::marks::{Mark, Marks};
 use crate::meeting::{Met, meet};
 use crate::runs::{match_run, tells_part};

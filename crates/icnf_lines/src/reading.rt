@@ -2,9 +2,6 @@
 ghost use Rattle.session_rules.specs.Reading.{icnf_line, event_at, script_line, script_at};
 ghost use Rattle.line_reading.specs.Readers.{reader, BodyRead, LineRead};
 
-#[cfg(test)]
-mod tests;
-
 use line_reading::{Spare, enter_line, literals_body, status_body};
 use outside::Source;
 use session_rules::{Event, Letter, LineFault, Rule};

@@ -2,9 +2,6 @@
 ghost use Rattle.session_rules.specs.Spelling.{event_words, header_words, line_text};
 ghost use Rattle.line_writing.specs.Writing.{writer, WritesLine};
 
-#[cfg(test)]
-mod tests;
-
 use line_writing::{Part, status_word, write_parts};
 use outside::Sink;
 use session_rules::{Event, WriteFault};

@@ -2,9 +2,6 @@
 ghost use Rattle.session_rules.specs.Reading.{idrup_line, step_at};
 ghost use Rattle.line_reading.specs.Readers.{reader, BodyRead, LineRead};
 
-#[cfg(test)]
-mod tests;
-
 use icnf_lines::read_event;
 use line_reading::{Spare, enter_line, literals_body};
 use outside::Source;

@@ -3,9 +3,6 @@ ghost use Rattle.std.specs.Prelude.{◌∷◌, []};
 ghost use Rattle.session_rules.specs.Spelling.{line_text, literal_words, step_words};
 ghost use Rattle.line_writing.specs.Writing.{writer, WritesLine};
 
-#[cfg(test)]
-mod tests;
-
 use line_writing::{Part, write_parts};
 use lits::Lit;
 use outside::Sink;

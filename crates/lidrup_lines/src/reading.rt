@@ -2,9 +2,6 @@
 ghost use Rattle.session_rules.specs.Reading.{lidrup_line, id_step_at};
 ghost use Rattle.line_reading.specs.Readers.{reader, BodyRead, LineRead};
 
-#[cfg(test)]
-mod tests;
-
 use line_reading::{
     Spare, enter_line, id_literals_body, id_literals_ids_body, ids_body, literals_body,
     literals_ids_body, status_body,

@@ -3,9 +3,6 @@ ghost use Rattle.std.specs.Prelude.{◌∷◌, ◌++◌, [], codes, decimal};
 ghost use Rattle.session_rules.specs.Spelling.{id_step_words, id_words, line_text, literal_words};
 ghost use Rattle.line_writing.specs.Writing.{writer, WritesLine};
 
-#[cfg(test)]
-mod tests;
-
 use line_writing::{Part, status_word, write_parts};
 use lits::Lit;
 use outside::Sink;

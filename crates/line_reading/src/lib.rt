@@ -36,6 +36,3 @@ pub use peeking::peek_letter;
 pub use runs::pass_literals;
 pub use spare::Spare;
 pub use words::{WordKind, end_line, next_word};
-
-#[cfg(test)]
-mod tests;

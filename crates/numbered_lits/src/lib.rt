@@ -12,9 +12,6 @@ ghost use Rattle.lits.specs.Numbering.{IsNumbering, is_known, are_known, dense_l
 ghost use Rattle.smallvec.specs.SmallVec.{HasRoomFor};
 ghost use Rattle.numbered_lits.specs.Numbers.{Continues, AreNumbers, known_front};
 
-#[cfg(test)]
-mod tests;
-
 use lits::{Dense, Lit, LitSet};
 use smallvec::SmallVec;
 use std::alloc::{AllocError, Global};

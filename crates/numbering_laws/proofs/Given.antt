@@ -24,13 +24,13 @@ use Rattle.numbering_laws.specs.Kept.{dense_given, file_kept}
 use Rattle.numbering_laws.proofs.Mapped.{position-mapped}
 
 module _ (vars : List ℕ) where
-  abbrev is_known_given : GivenClause → Bool
+  abbrev pub is_known_given : GivenClause → Bool
   is_known_given g = are_known vars g.clause
 
-  abbrev are_known_given : List GivenClause → Bool
+  abbrev pub are_known_given : List GivenClause → Bool
   are_known_given gs = list_all is_known_given gs
 
-  abbrev dense_givens : List GivenClause → List GivenClause
+  abbrev pub dense_givens : List GivenClause → List GivenClause
   dense_givens gs = map (dense_given vars) gs
 
   -- ---- One step
@@ -105,7 +105,7 @@ module _ (vars : List ℕ) where
   pub given-dense : (ps : List Step) → are_known_steps vars ps ≡ true → given_by (dense_steps vars ps) ≡ dense_givens (given_by ps)
   given-dense ps k = behind-dense [] ps refl k
 
-  given-known : (ps : List Step) → are_known_steps vars ps ≡ true → are_known_given (given_by ps) ≡ true
+  pub given-known : (ps : List Step) → are_known_steps vars ps ≡ true → are_known_given (given_by ps) ≡ true
   given-known ps k = behind-known [] ps refl k
 
   pub next-dense : (ps : List Step) → are_known_steps vars ps ≡ true → next_id (dense_steps vars ps) ≡ next_id ps
@@ -168,7 +168,7 @@ module _ (vars : List ℕ) where
   given-back None k = refl
   given-back (Some g) k = as-back g.standing g.clause (k g refl)
 
-  with_id-dense : (gs : List GivenClause) (id : ℕ) → with_id (dense_givens gs) id ≡ option_map (dense_given vars) (with_id gs id)
+  pub with_id-dense : (gs : List GivenClause) (id : ℕ) → with_id (dense_givens gs) id ≡ option_map (dense_given vars) (with_id gs id)
   with_id-dense gs zero = refl
   with_id-dense gs (suc i) = slice_get-map (dense_given vars) gs i
 
@@ -177,7 +177,7 @@ module _ (vars : List ℕ) where
   at-known (h ∷ hs) zero g k e = let f : h ≡ g = cc e in subst (λ z. is_known_given z ≡ true) f (and_parts (is_known_given h) (are_known_given hs) k).0
   at-known (h ∷ hs) (suc i) g k e = at-known hs i g (and_parts (is_known_given h) (are_known_given hs) k).1 e
 
-  id-known : (gs : List GivenClause) (id : ℕ) (g : GivenClause) → are_known_given gs ≡ true → with_id gs id ≡ Some g → is_known_given g ≡ true
+  pub id-known : (gs : List GivenClause) (id : ℕ) (g : GivenClause) → are_known_given gs ≡ true → with_id gs id ≡ Some g → is_known_given g ≡ true
   id-known gs zero g k e = cc
   id-known gs (suc i) g k e = at-known gs i g k e
 

@@ -14,8 +14,6 @@ ghost use Rattle.clause_store.specs.Clauses.{IsOnce};
 ghost use Rattle.occurrence_lists.specs.Occurring.{row, times, one_if, with_rows, AreListed, IsAdded, IsRemoved, IsSame};
 
 mod laws;
-#[cfg(test)]
-mod tests;
 
 pub use laws::lists_stand_for_clauses;
 use lits::{Lit, MAX_VAR};

@@ -194,7 +194,7 @@ module _ (m n : Clauses) (next : ℕ) (s t : State) (c : List ℕ) where
 
 -- ---- Deletions, weakenings, restorings
 
-its_set : (c set : List ℕ) → set ≡ set_of c → same_set c set ≡ true
+pub its_set : (c set : List ℕ) → set ≡ set_of c → same_set c set ≡ true
 its_set c set e = same_set-flip set c (same_from set c (λ x. ap (λ z. has z x) e ∙ has-set_of c x))
 
 module _ (m : Store) (e f : EngineView) (same : clauses_of m ≡ e.clauses) (next : ℕ) (s : State) (c set : List ℕ) (is : set ≡ set_of c) where

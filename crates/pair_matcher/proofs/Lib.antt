@@ -12,3 +12,4 @@ pub mod Taken
 pub mod Headed
 pub mod FirstFaults
 pub mod Lines
+pub mod Converting

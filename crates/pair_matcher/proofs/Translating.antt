@@ -61,7 +61,7 @@ known-more vars after ls c k = subst (λ z. are_known z ls ≡ true) (sym c.is) 
 -- ---- A step that was judged by its translation
 
 module _ (vars after : List ℕ) (more : Continues vars after) where
-  through_stays : (s : IdrupState) (ps : List Step) → AreAfterThrough vars s ps → AreAfterThrough after s ps
+  pub through_stays : (s : IdrupState) (ps : List Step) → AreAfterThrough vars s ps → AreAfterThrough after s ps
   through_stays s ps h = record {
     known = subst (λ z. are_known_steps z ps ≡ true) (sym more.is) (known-stay vars more.more ps h.known);
     translated = subst (AreAfter s) (sym (ap (λ z. dense_steps z ps) more.is ∙ steps-stay vars more.more ps h.known)) h.translated;

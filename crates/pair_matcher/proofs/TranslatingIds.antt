@@ -1,5 +1,5 @@
 -- What the judgement of the file's steps with ids by their translations rests on.
-use Rattle.std.proofs.Common.{◌≡◌, ℕ, Bool, true, false, if◌then◌else◌, List, [], ◌∷◌, ◌++◌, Option, Some, None, option_map, Result, Ok, Err, refl, sym, ap, ◌∙◌, subst, inl, inr}
+use Rattle.std.proofs.Common.{◌≡◌, ℕ, Bool, true, false, if◌then◌else◌, List, [], ◌∷◌, ◌++◌, length, Option, Some, None, option_map, Result, Ok, Err, refl, sym, ap, ◌∙◌, subst, inl, inr, arith}
 use Rattle.std.specs.Prelude.{IfOk, IfNone, slice_get}
 use Rattle.std.specs.declared.alloc.AllocError.{AllocError}
 use Rattle.std.specs.FinMap as finmap
@@ -186,8 +186,12 @@ id_step_stands v w step (Err e) j a = tt
 
 -- ---- The start and the end
 
-pub ready-new-ids : (m : Store) (s : State) (room : ℕ) (vars asked : List ℕ) → m ≡ finmap.empty → s ≡ start → asked ≡ [] → IsReadyForIds m s room vars asked
-ready-new-ids m s room vars asked is same none = record { between = inside-new m s room is same; known = subst (λ z. are_known vars z ≡ true) (sym none) refl }
+pub ready-new-ids : (m : Store) (s : State) (room : ℕ) (vars asked : List ℕ) (live : Bool) → m ≡ finmap.empty → s ≡ start → vars ≡ [] → asked ≡ [] → IsReadyForIds m s room vars asked live
+ready-new-ids m s room vars asked live is same unnumbered none = record {
+  between = inside-new m s room is same;
+  known = subst (λ z. are_known vars z ≡ true) (sym none) refl;
+  ready = λ _. let none_is : length vars ≡ 0 = ap length unnumbered in omega arith;
+}
 
 pub stands-new-ids : (m : Store) (s : State) (vars asked : List ℕ) (live : Bool) → m ≡ finmap.empty → StandsFor s [] → asked ≡ []
     → sides.StandsForIds (record { live = live; clauses = clauses_of_store m; events = s; vars = vars; asked = asked }) []

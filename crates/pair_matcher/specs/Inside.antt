@@ -1,5 +1,5 @@
 -- What holds inside the sides.
-use Rattle.std.specs.Prelude.{◌≡◌, ℕ, ◌≤◌, List, All, is_some, IsTrue}
+use Rattle.std.specs.Prelude.{◌≡◌, ℕ, ◌≤◌, Bool, List, length, All, is_some, IsTrue}
 use Rattle.lits.specs.Literal.{var}
 use Rattle.lits.specs.Numbering.{are_known}
 use Rattle.clause_store.specs.Clauses.{Store}
@@ -38,10 +38,11 @@ pub record IsReady (e : EngineView) (s : State) (vars asked : List ℕ) : Type 0
   pub between : IsBetweenLines e s
   pub known : IsTrue (are_known vars asked)
 
--- and so with ids
-pub record IsReadyForIds (m : Store) (s : State) (room : ℕ) (vars asked : List ℕ) : Type 0 where
+-- and so with ids; while the side is live, the hint rule has room for all numbers, so that a core takes none
+pub record IsReadyForIds (m : Store) (s : State) (room : ℕ) (vars asked : List ℕ) (live : Bool) : Type 0 where
   pub between : HasHintRoom m s room
   pub known : IsTrue (are_known vars asked)
+  pub ready : IsTrue live → length vars ≤ room
 
 -- what the parts of a side say of its steps
 abbrev pub state_of : idrup.Parts → IdrupState

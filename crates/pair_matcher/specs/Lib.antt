@@ -3,3 +3,4 @@ pub mod Sides
 pub mod Inside
 pub mod Taken
 pub mod Checks
+pub mod Conversion

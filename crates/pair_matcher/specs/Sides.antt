@@ -72,11 +72,12 @@ abbrev pub asked_after_id : List ℕ → LStep → List ℕ
 asked_after_id asked (lsteps.Query c) = c
 asked_after_id asked _ = asked
 
--- the steps that take no memory: a status and a deletion
-abbrev pub takes_no_memory : LStep → Bool
-takes_no_memory (lsteps.Status word) = true
-takes_no_memory (lsteps.Delete ids) = true
-takes_no_memory _ = false
+-- the steps with ids that take no memory: a status, a deletion, and a core of at most so many literals as a list holds without memory
+abbrev pub is_frugal_with_ids : LStep → Bool
+is_frugal_with_ids (lsteps.Status word) = true
+is_frugal_with_ids (lsteps.Delete ids) = true
+is_frugal_with_ids (lsteps.Core u hints) = nat_le (length u) 16
+is_frugal_with_ids _ = false
 
 -- ---- Without ids
 

@@ -17,15 +17,17 @@ ghost use Rattle.session_rules.specs.Pair.{is_idle};
 ghost use Rattle.session_events.specs.State.{AreReserved};
 ghost use Rattle.pair_matcher.specs.Sides.{StandsFor, AreAfter, Judged, JudgedThrough, ChangesNamedAlone, first_rule, asked_after, is_frugal};
 ghost use Rattle.pair_matcher.specs.Inside.{IsBetweenLines, state_of};
+ghost use Rattle.pair_matcher.specs.Conversion.{Finds, FindsThrough, Becomes, IfLine, rule_broken};
 
+use crate::conversion::{Converted, closes_as_wanted, line_of};
 use crate::literals::{end_rule, negate, refill, shown_answer};
 use crate::strangers::first_stranger;
 use lits::{Dense, Lit, LitSet};
 use numbered_lits::Numbers;
 use propagation::Engine;
-use rup_check::closes;
+use rup_check::Tracer;
 use session_events::{Events, Kind};
-use session_rules::{Event, Id, Rule, StatusWord, Step};
+use session_rules::{Event, Id, Ids, Rule, StatusWord, Step};
 use std::alloc::{AllocError, Global};
 use std::marker::Model;
 
@@ -36,6 +38,9 @@ struct Parts {
     engine: Engine,
     negations: Vec<Lit>,
     next: Id,
+    named: Id,
+    hints: Ids,
+    tracer: Tracer,
     alloc: Global,
 }
 
@@ -137,39 +142,47 @@ fn judge_model(p: &mut Parts, m: &[Lit]) -> Option<Rule>
     None
 }
 
-/// Judges a core. It takes no memory: behind the rules of its literals these are assumptions, and so their variables are
-/// reserved.
-fn judge_core(p: &mut Parts, u: &[Lit]) -> Option<Rule>
+/// Judges a core. Where no hints are wanted it takes no memory: behind the rules of its literals these are assumptions, and so their
+/// variables are reserved.
+fn judge_core(p: &mut Parts, u: &[Lit], wanted: bool) -> Result<Option<Rule>, AllocError>
     requires { IsBetweenLines p.old.engine p.old.events }
-    ensures judged { Judged (state_of p.old) (state_of p.new) (steps.Event (events.Core u.now)) result }
+    ensures judged { IfOk result (λ r. Judged (state_of p.old) (state_of p.new) (steps.Event (events.Core u.now)) r) }
+    ensures found { IfOk result (λ r. IfNone r (Finds wanted (state_of p.old) (steps.Event (events.Core u.now)) p.new.named p.new.hints)) }
     ensures inside { IsBetweenLines p.new.engine p.new.events }
     ensures next { p.new.next ≤ p.old.next + 1 }
+    ensures frugal { wanted ≡ false → IsOk result }
 {
     if let Some(rule) = p.events.order_rule(Kind::Core) {
-        return Some(rule);
+        return Ok(Some(rule));
     }
     if let Some(rule) = p.events.core_rule(u) {
-        return Some(rule);
+        return Ok(Some(rule));
     }
-    if !closes(&mut p.engine, u) {
-        return Some(Rule::CoreOpen);
+    match closes_as_wanted(&mut p.engine, &mut p.tracer, &mut p.hints, u, wanted) {
+        Ok(true) => {}
+        Ok(false) => return Ok(Some(Rule::CoreOpen)),
+        Err(fault) => return Err(fault),
     }
     p.events.take_core();
-    None
+    Ok(None)
 }
 
 /// Judges a lemma.
-fn judge_lemma(p: &mut Parts, lits: &[Lit]) -> Result<Option<Rule>, AllocError>
+fn judge_lemma(p: &mut Parts, lits: &[Lit], wanted: bool) -> Result<Option<Rule>, AllocError>
     requires inside { IsBetweenLines p.old.engine p.old.events }
     requires reserved { AreReserved p.old.events lits.now }
     requires next { p.old.next < 2 ^ 63 }
     ensures judged { IfOk result (λ r. Judged (state_of p.old) (state_of p.new) (steps.Lemma lits.now) r) }
+    ensures found { IfOk result (λ r. IfNone r (Finds wanted (state_of p.old) (steps.Lemma lits.now) p.new.named p.new.hints)) }
     ensures inside { IsBetweenLines p.new.engine p.new.events }
     ensures next { p.new.next ≤ p.old.next + 1 }
 {
     negate(&mut p.negations, lits)?;
-    if !closes(&mut p.engine, p.negations.as_slice()) {
-        return Ok(Some(Rule::Lemma));
+    let start = p.negations.as_slice();
+    match closes_as_wanted(&mut p.engine, &mut p.tracer, &mut p.hints, start, wanted) {
+        Ok(true) => {}
+        Ok(false) => return Ok(Some(Rule::Lemma)),
+        Err(fault) => return Err(fault),
     }
     match p.engine.add(p.next, lits) {
         Ok(_) => {}
@@ -183,6 +196,7 @@ fn judge_lemma(p: &mut Parts, lits: &[Lit]) -> Result<Option<Rule>, AllocError>
 fn judge_deletion(p: &mut Parts, lits: &[Lit]) -> Result<Option<Rule>, AllocError>
     requires { IsBetweenLines p.old.engine p.old.events }
     ensures judged { IfOk result (λ r. Judged (state_of p.old) (state_of p.new) (steps.Delete lits.now) r) }
+    ensures found { IfOk result (λ r. IfNone r (Finds true (state_of p.old) (steps.Delete lits.now) p.new.named p.new.hints)) }
     ensures inside { IsBetweenLines p.new.engine p.new.events }
     ensures next { p.new.next ≤ p.old.next + 1 }
     ensures short { length lits.now ≤ 16 → IsOk result }
@@ -191,6 +205,7 @@ fn judge_deletion(p: &mut Parts, lits: &[Lit]) -> Result<Option<Rule>, AllocErro
     let Some(id) = p.engine.store().least_active(&set) else {
         return Ok(Some(Rule::NotActive(1)));
     };
+    p.named = id;
     p.engine.replace_reason(id);
     match p.engine.delete(id) {
         Ok(()) => Ok(None),
@@ -202,6 +217,7 @@ fn judge_deletion(p: &mut Parts, lits: &[Lit]) -> Result<Option<Rule>, AllocErro
 fn judge_weakening(p: &mut Parts, lits: &[Lit]) -> Result<Option<Rule>, AllocError>
     requires { IsBetweenLines p.old.engine p.old.events }
     ensures judged { IfOk result (λ r. Judged (state_of p.old) (state_of p.new) (steps.Weaken lits.now) r) }
+    ensures found { IfOk result (λ r. IfNone r (Finds true (state_of p.old) (steps.Weaken lits.now) p.new.named p.new.hints)) }
     ensures inside { IsBetweenLines p.new.engine p.new.events }
     ensures next { p.new.next ≤ p.old.next + 1 }
 {
@@ -209,6 +225,7 @@ fn judge_weakening(p: &mut Parts, lits: &[Lit]) -> Result<Option<Rule>, AllocErr
     let Some(id) = p.engine.store().least_active(&set) else {
         return Ok(Some(Rule::NotActive(1)));
     };
+    p.named = id;
     p.engine.replace_reason(id);
     match p.engine.weaken(id) {
         Ok(()) => Ok(None),
@@ -220,6 +237,7 @@ fn judge_weakening(p: &mut Parts, lits: &[Lit]) -> Result<Option<Rule>, AllocErr
 fn judge_restoring(p: &mut Parts, lits: &[Lit]) -> Result<Option<Rule>, AllocError>
     requires { IsBetweenLines p.old.engine p.old.events }
     ensures judged { IfOk result (λ r. Judged (state_of p.old) (state_of p.new) (steps.Restore lits.now) r) }
+    ensures found { IfOk result (λ r. IfNone r (Finds true (state_of p.old) (steps.Restore lits.now) p.new.named p.new.hints)) }
     ensures inside { IsBetweenLines p.new.engine p.new.events }
     ensures next { p.new.next ≤ p.old.next + 1 }
 {
@@ -227,6 +245,7 @@ fn judge_restoring(p: &mut Parts, lits: &[Lit]) -> Result<Option<Rule>, AllocErr
     let Some(id) = p.engine.store().least_weakened(&set) else {
         return Ok(Some(Rule::NotWeakened(1)));
     };
+    p.named = id;
     match p.engine.restore(id) {
         Ok(()) => Ok(None),
         Err(_) => Err(AllocError),
@@ -292,36 +311,43 @@ fn take_model(
 }
 
 /// Judges a core of the file that has a literal without a number. The literals before the first such were translated.
-fn judge_strange_core(p: &mut Parts, numbers: &Numbers, u: &[Lit]) -> Option<Rule>
+fn judge_strange_core(p: &mut Parts, numbers: &Numbers, u: &[Lit]) -> Rule
     requires inside { IsBetweenLines p.old.engine p.old.events }
     requires strange { are_known numbers.now.vars u.now ≡ false }
     requires front { numbers.now.lits ≡ dense_lits numbers.now.vars (known_front numbers.now.vars u.now) }
-    ensures judged { JudgedThrough numbers.now.vars numbers.now.vars (state_of p.old) (state_of p.new) (steps.Event (events.Core u.now)) result }
+    ensures judged { JudgedThrough numbers.now.vars numbers.now.vars (state_of p.old) (state_of p.new) (steps.Event (events.Core u.now)) (Some result) }
     ensures inside { IsBetweenLines p.new.engine p.new.events }
     ensures next { p.new.next ≤ p.old.next + 1 }
 {
     if let Some(rule) = p.events.order_rule(Kind::Core) {
-        return Some(rule);
+        return rule;
     }
-    Some(first_stranger(&mut p.events, numbers, u))
+    first_stranger(&mut p.events, numbers, u)
 }
 
-/// Judges a core of the file. It takes no memory for at most 16 literals.
-fn take_core(p: &mut Parts, numbers: &mut Numbers, u: &[Lit]) -> Result<Option<Rule>, AllocError>
+/// Judges a core of the file. It takes no memory for at most 16 literals where no hints are wanted.
+fn take_core(
+    p: &mut Parts,
+    numbers: &mut Numbers,
+    u: &[Lit],
+    wanted: bool,
+) -> Result<Option<Rule>, AllocError>
     requires { IsBetweenLines p.old.engine p.old.events }
+    ensures found { IfOk result (λ r. IfNone r (FindsThrough wanted numbers.old.vars (state_of p.old) (steps.Event (events.Core u.now)) p.new.named p.new.hints)) }
     ensures judged { IfOk result (λ r. JudgedThrough numbers.old.vars numbers.new.vars (state_of p.old) (state_of p.new) (steps.Event (events.Core u.now)) r) }
     ensures vars { numbers.new.vars ≡ numbers.old.vars }
     ensures inside { IsBetweenLines p.new.engine p.new.events }
     ensures next { p.new.next ≤ p.old.next + 1 }
-    ensures short { length u.now ≤ 16 → IsOk result }
+    ensures short { length u.now ≤ 16 → wanted ≡ false → IsOk result }
 {
     match numbers.find(u) {
-        Ok(true) => {
-            let answer = judge_core(p, numbers.lits());
-            Ok(shown_answer(answer, numbers.dense()))
-        }
-        Ok(false) => Ok(judge_strange_core(p, numbers, u)),
-        Err(_) => Err(AllocError),
+        Ok(true) => {}
+        Ok(false) => return Ok(Some(judge_strange_core(p, numbers, u))),
+        Err(_) => return Err(AllocError),
+    }
+    match judge_core(p, numbers.lits(), wanted) {
+        Ok(answer) => Ok(shown_answer(answer, numbers.dense())),
+        Err(fault) => Err(fault),
     }
 }
 
@@ -330,16 +356,18 @@ fn take_lemma(
     p: &mut Parts,
     numbers: &mut Numbers,
     lits: &[Lit],
+    wanted: bool,
 ) -> Result<Option<Rule>, AllocError>
     requires inside { IsBetweenLines p.old.engine p.old.events }
     requires next { p.old.next < 2 ^ 63 }
+    ensures found { IfOk result (λ r. IfNone r (FindsThrough wanted numbers.old.vars (state_of p.old) (steps.Lemma lits.now) p.new.named p.new.hints)) }
     ensures judged { IfOk result (λ r. JudgedThrough numbers.old.vars numbers.new.vars (state_of p.old) (state_of p.new) (steps.Lemma lits.now) r) }
     ensures continues { Continues numbers.old.vars numbers.new.vars }
     ensures inside { IsBetweenLines p.new.engine p.new.events }
     ensures next { p.new.next ≤ p.old.next + 1 }
 {
     number(p, numbers, lits)?;
-    match judge_lemma(p, numbers.lits()) {
+    match judge_lemma(p, numbers.lits(), wanted) {
         Ok(answer) => Ok(shown_answer(answer, numbers.dense())),
         Err(fault) => Err(fault),
     }
@@ -353,6 +381,7 @@ fn take_deletion(
 ) -> Result<Option<Rule>, AllocError>
     requires { IsBetweenLines p.old.engine p.old.events }
     ensures judged { IfOk result (λ r. JudgedThrough numbers.old.vars numbers.new.vars (state_of p.old) (state_of p.new) (steps.Delete lits.now) r) }
+    ensures found { IfOk result (λ r. IfNone r (FindsThrough true numbers.old.vars (state_of p.old) (steps.Delete lits.now) p.new.named p.new.hints)) }
     ensures vars { numbers.new.vars ≡ numbers.old.vars }
     ensures inside { IsBetweenLines p.new.engine p.new.events }
     ensures next { p.new.next ≤ p.old.next + 1 }
@@ -377,6 +406,7 @@ fn take_weakening(
 ) -> Result<Option<Rule>, AllocError>
     requires { IsBetweenLines p.old.engine p.old.events }
     ensures judged { IfOk result (λ r. JudgedThrough numbers.old.vars numbers.new.vars (state_of p.old) (state_of p.new) (steps.Weaken lits.now) r) }
+    ensures found { IfOk result (λ r. IfNone r (FindsThrough true numbers.old.vars (state_of p.old) (steps.Weaken lits.now) p.new.named p.new.hints)) }
     ensures vars { numbers.new.vars ≡ numbers.old.vars }
     ensures inside { IsBetweenLines p.new.engine p.new.events }
     ensures next { p.new.next ≤ p.old.next + 1 }
@@ -400,6 +430,7 @@ fn take_restoring(
 ) -> Result<Option<Rule>, AllocError>
     requires { IsBetweenLines p.old.engine p.old.events }
     ensures judged { IfOk result (λ r. JudgedThrough numbers.old.vars numbers.new.vars (state_of p.old) (state_of p.new) (steps.Restore lits.now) r) }
+    ensures found { IfOk result (λ r. IfNone r (FindsThrough true numbers.old.vars (state_of p.old) (steps.Restore lits.now) p.new.named p.new.hints)) }
     ensures vars { numbers.new.vars ≡ numbers.old.vars }
     ensures inside { IsBetweenLines p.new.engine p.new.events }
     ensures next { p.new.next ≤ p.old.next + 1 }
@@ -431,40 +462,49 @@ fn judge_event(
     p: &mut Parts,
     numbers: &mut Numbers,
     event: &Event,
+    wanted: bool,
 ) -> Result<Option<Rule>, AllocError>
     requires inside { IsBetweenLines p.old.engine p.old.events }
     requires next { p.old.next < 2 ^ 63 }
+    ensures found { IfOk result (λ r. IfNone r (FindsThrough wanted numbers.old.vars (state_of p.old) (steps.Event event.now) p.new.named p.new.hints)) }
     ensures judged { IfOk result (λ r. JudgedThrough numbers.old.vars numbers.new.vars (state_of p.old) (state_of p.new) (steps.Event event.now) r) }
     ensures continues { Continues numbers.old.vars numbers.new.vars }
     ensures inside { IsBetweenLines p.new.engine p.new.events }
     ensures next { p.new.next ≤ p.old.next + 1 }
-    ensures frugal { IsTrue (is_frugal (steps.Event event.now)) → IsOk result }
+    ensures frugal { IsTrue (is_frugal (steps.Event event.now)) → wanted ≡ false → IsOk result }
 {
     match event {
         Event::Input(lits) => take_input(p, numbers, lits.as_slice()),
         Event::Query(lits) => take_query(p, numbers, lits.as_slice()),
         Event::Status(word) => Ok(take_status(p, numbers, *word)),
         Event::Model(lits) => take_model(p, numbers, lits.as_slice()),
-        Event::Core(lits) => take_core(p, numbers, lits.as_slice()),
+        Event::Core(lits) => take_core(p, numbers, lits.as_slice(), wanted),
         // Parts of a model or of a core have no place in a proof.
         Event::Values(_) => Ok(Some(Rule::Order)),
         Event::Failed(_) => Ok(Some(Rule::Order)),
     }
 }
 
-/// Judges a step of the file.
-fn judge(p: &mut Parts, numbers: &mut Numbers, step: &Step) -> Result<Option<Rule>, AllocError>
+/// Judges a step of the file. The id that it names is kept where it takes a clause or gives one back; hints are found where they are
+/// wanted.
+fn judge(
+    p: &mut Parts,
+    numbers: &mut Numbers,
+    step: &Step,
+    wanted: bool,
+) -> Result<Option<Rule>, AllocError>
     requires inside { IsBetweenLines p.old.engine p.old.events }
     requires next { p.old.next < 2 ^ 63 }
+    ensures found { IfOk result (λ r. IfNone r (FindsThrough wanted numbers.old.vars (state_of p.old) step.now p.new.named p.new.hints)) }
     ensures judged { IfOk result (λ r. JudgedThrough numbers.old.vars numbers.new.vars (state_of p.old) (state_of p.new) step.now r) }
     ensures continues { Continues numbers.old.vars numbers.new.vars }
     ensures inside { IsBetweenLines p.new.engine p.new.events }
     ensures next { p.new.next ≤ p.old.next + 1 }
-    ensures frugal { IsTrue (is_frugal step.now) → IsOk result }
+    ensures frugal { IsTrue (is_frugal step.now) → wanted ≡ false → IsOk result }
 {
     match step {
-        Step::Event(event) => judge_event(p, numbers, event),
-        Step::Lemma(lits) => take_lemma(p, numbers, lits.as_slice()),
+        Step::Event(event) => judge_event(p, numbers, event, wanted),
+        Step::Lemma(lits) => take_lemma(p, numbers, lits.as_slice(), wanted),
         Step::Delete(lits) => take_deletion(p, numbers, lits.as_slice()),
         Step::Weaken(lits) => take_weakening(p, numbers, lits.as_slice()),
         Step::Restore(lits) => take_restoring(p, numbers, lits.as_slice()),
@@ -489,18 +529,20 @@ fn judge_and_keep(
     numbers: &mut Numbers,
     asked: &mut Vec<Lit>,
     step: &Step,
+    wanted: bool,
 ) -> Result<Option<Rule>, AllocError>
     requires inside { IsBetweenLines p.old.engine p.old.events }
     requires known { IsTrue (are_known numbers.old.vars asked.old.items) }
     requires next { p.old.next < 2 ^ 63 }
     ensures judged { IfOk result (λ r. JudgedThrough numbers.old.vars numbers.new.vars (state_of p.old) (state_of p.new) step.now r) }
+    ensures found { IfOk result (λ r. IfNone r (FindsThrough wanted numbers.old.vars (state_of p.old) step.now p.new.named p.new.hints)) }
     ensures asked { IfOk result (λ r. IfNone r (asked.new.items ≡ asked_after asked.old.items step.now)) }
     ensures known { IsTrue (are_known numbers.new.vars asked.new.items) }
     ensures inside { IsBetweenLines p.new.engine p.new.events }
     ensures next { p.new.next ≤ p.old.next + 1 }
-    ensures frugal { IsTrue (is_frugal step.now) → IsOk result }
+    ensures frugal { IsTrue (is_frugal step.now) → wanted ≡ false → IsOk result }
 {
-    match judge(p, numbers, step) {
+    match judge(p, numbers, step, wanted) {
         Ok(None) => {}
         Ok(Some(rule)) => return Ok(Some(rule)),
         Err(fault) => return Err(fault),
@@ -555,6 +597,9 @@ impl IdrupSide {
             engine: Engine::new(alloc),
             negations: Vec::new(alloc),
             next: 1,
+            named: 0,
+            hints: Ids::new(alloc),
+            tracer: Tracer::new(alloc),
             alloc,
         };
         let numbers = Numbers::new(alloc);
@@ -585,9 +630,49 @@ impl IdrupSide {
         ensures next { self.new.next ≤ self.old.next + 1 }
         ensures frugal { IsTrue (is_frugal step.now) → IsOk result }
     {
-        let judged = judge_and_keep(&mut self.parts, &mut self.numbers, &mut self.asked, step);
+        let judged = judge_and_keep(
+            &mut self.parts,
+            &mut self.numbers,
+            &mut self.asked,
+            step,
+            false,
+        );
         self.live = matches!(judged, Ok(None));
         judged
+    }
+
+    /// As `step`; where no rule is broken the answer is the step with ids and hints that this one becomes. An input and a lemma
+    /// take the next id, a deletion and a weakening name the least active id of the clause's set, and a restoring the least
+    /// weakened one. Hints close, name active clauses alone and none twice. Literals keep the file's order and repeats.
+    pub fn step_with(&mut self, step: &Step) -> Result<Converted, AllocError>
+        requires live { IsTrue self.old.live }
+        requires next { self.old.next < 2 ^ 63 }
+        ensures rule { IfOk result (λ c. (ps : List Step) → StandsFor self.old ps → rule_broken c ≡ first_rule (own_faults ps step.now)) }
+        ensures stands { IfOk result (λ c. IfNone (rule_broken c) ((ps : List Step) → StandsFor self.old ps → StandsFor self.new (ps ++ step.now ∷ []))) }
+        ensures line { IfOk result (λ c. IfLine c (Becomes self.old step.now)) }
+        ensures known { IfOk result (λ c. IfNone (rule_broken c) (IsTrue (is_known_step self.new.vars step.now))) }
+        ensures named { IfOk result (λ c. IfNone (rule_broken c) (ChangesNamedAlone self.old self.new step.now)) }
+        ensures live { IfOk result (λ c. self.new.live ≡ is_none (rule_broken c)) }
+        ensures err { OnErr result (self.new.live ≡ false) }
+        ensures next { self.new.next ≤ self.old.next + 1 }
+    {
+        self.live = false;
+        let next = self.parts.next;
+        match judge_and_keep(
+            &mut self.parts,
+            &mut self.numbers,
+            &mut self.asked,
+            step,
+            true,
+        ) {
+            Ok(None) => {}
+            Ok(Some(rule)) => return Ok(Converted::Broken(rule)),
+            Err(fault) => return Err(fault),
+        }
+        let parts = &mut self.parts;
+        let converted = line_of(parts.alloc, step, next, parts.named, &mut parts.hints)?;
+        self.live = matches!(converted, Converted::Line(_));
+        Ok(converted)
     }
 
     /// The literals of the last query as the file has them, in its order and with its repeats; none before the first query.

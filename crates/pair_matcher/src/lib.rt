@@ -2,15 +2,15 @@
 #![tactic(auto)]
 
 mod checking;
+mod conversion;
 mod idrup;
 mod lidrup;
 mod literals;
 mod proof_side;
 mod strangers;
-#[cfg(test)]
-mod tests;
 mod turns;
 
 pub use checking::{CheckFault, check_pair};
+pub use conversion::Converted;
 pub use idrup::IdrupSide;
 pub use lidrup::LidrupSide;

@@ -1,7 +1,8 @@
 // The side of a proof with ids. It numbers the file's variables in the order in which they come, and all that it keeps is over these
-// numbers; a core gives no number. It keeps the clauses by id and what the events say, and checks hints over the active clauses.
+// numbers; a core gives no number, and finds the room for hints that was made when its variables got theirs. It keeps the clauses
+// by id and what the events say, and checks hints over the active clauses.
 
-ghost use Rattle.std.specs.Prelude.{◌≡◌, ◌≤◌, List, [], ◌∷◌, ◌++◌, true, false, IsTrue, IfOk, IfNone, IsOk, OnOk, OnErr, is_none};
+ghost use Rattle.std.specs.Prelude.{◌≡◌, ◌≤◌, List, [], ◌∷◌, ◌++◌, true, false, length, IsTrue, IfOk, IfNone, IsOk, OnOk, OnErr, is_none};
 ghost use Rattle.lits.specs.Numbering.{are_known, dense_lits};
 ghost use Rattle.numbered_lits.specs.Numbers.{Continues, AreNumbers};
 ghost use Rattle.numbering_laws.specs.Dense.{is_known_id_step};
@@ -14,8 +15,8 @@ ghost use Rattle.session_rules.specs.Pair.{is_idle};
 ghost use Rattle.session_events.specs.State.{AreReserved};
 ghost use Rattle.side_laws.specs.ClauseStates.{clauses_of_store};
 ghost use Rattle.hint_check.specs.Hints.{end_of};
-ghost use Rattle.pair_matcher.specs.Sides.{StandsForIds, AreAfterIds, AreAfterIdsThrough, JudgedId, JudgedIdThrough, first_rule, asked_after_id, takes_no_memory};
-ghost use Rattle.pair_matcher.specs.Inside.{HasHintRoom, state_of_ids};
+ghost use Rattle.pair_matcher.specs.Sides.{StandsForIds, AreAfterIds, AreAfterIdsThrough, JudgedId, JudgedIdThrough, first_rule, asked_after_id, is_frugal_with_ids};
+ghost use Rattle.pair_matcher.specs.Inside.{HasHintRoom, AreBelow, state_of_ids};
 
 use crate::literals::{end_rule, negate, refill, shown_answer};
 use crate::strangers::first_stranger;
@@ -47,6 +48,7 @@ fn number(p: &mut Parts, numbers: &mut Numbers, lits: &[Lit]) -> Result<(), Allo
     ensures reserved { OnOk result (AreReserved p.new.events numbers.new.lits) }
     ensures stands { (ps : List LStep) → AreAfterIds (state_of_ids p.old) ps → AreAfterIds (state_of_ids p.new) ps }
     ensures inside { HasHintRoom p.new.store p.new.events p.new.hints }
+    ensures room { OnOk result (length numbers.new.vars ≤ p.new.hints) }
 {
     numbers.number(lits)?;
     reserve(p, numbers)
@@ -59,6 +61,7 @@ fn reserve(p: &mut Parts, numbers: &Numbers) -> Result<(), AllocError>
     ensures reserved { OnOk result (AreReserved p.new.events numbers.now.lits) }
     ensures stands { (ps : List LStep) → AreAfterIds (state_of_ids p.old) ps → AreAfterIds (state_of_ids p.new) ps }
     ensures inside { HasHintRoom p.new.store p.new.events p.new.hints }
+    ensures room { OnOk result (length numbers.now.vars ≤ p.new.hints) }
 {
     let count = numbers.count();
     p.hints.reserve(count)?;
@@ -72,6 +75,7 @@ fn judge_input(p: &mut Parts, id: Id, lits: &[Lit]) -> Result<Option<Rule>, Allo
     requires reserved { AreReserved p.old.events lits.now }
     ensures judged { IfOk result (λ r. JudgedId (state_of_ids p.old) (state_of_ids p.new) (lsteps.Input id lits.now) r) }
     ensures inside { HasHintRoom p.new.store p.new.events p.new.hints }
+    ensures room { p.new.hints ≡ p.old.hints }
 {
     if let Some(rule) = p.events.order_rule(Kind::Input) {
         return Ok(Some(rule));
@@ -91,6 +95,7 @@ fn judge_query(p: &mut Parts, lits: &[Lit]) -> Result<Option<Rule>, AllocError>
     requires reserved { AreReserved p.old.events lits.now }
     ensures judged { IfOk result (λ r. JudgedId (state_of_ids p.old) (state_of_ids p.new) (lsteps.Query lits.now) r) }
     ensures inside { HasHintRoom p.new.store p.new.events p.new.hints }
+    ensures room { p.new.hints ≡ p.old.hints }
 {
     if let Some(rule) = p.events.order_rule(Kind::Query) {
         return Ok(Some(rule));
@@ -104,6 +109,7 @@ fn judge_status(p: &mut Parts, word: StatusWord) -> Option<Rule>
     requires { HasHintRoom p.old.store p.old.events p.old.hints }
     ensures judged { JudgedId (state_of_ids p.old) (state_of_ids p.new) (lsteps.Status word) result }
     ensures inside { HasHintRoom p.new.store p.new.events p.new.hints }
+    ensures room { p.new.hints ≡ p.old.hints }
 {
     if let Some(rule) = p.events.order_rule(Kind::Status) {
         return Some(rule);
@@ -118,6 +124,7 @@ fn judge_model(p: &mut Parts, m: &[Lit]) -> Option<Rule>
     requires reserved { AreReserved p.old.events m.now }
     ensures judged { JudgedId (state_of_ids p.old) (state_of_ids p.new) (lsteps.Model m.now) result }
     ensures inside { HasHintRoom p.new.store p.new.events p.new.hints }
+    ensures room { p.new.hints ≡ p.old.hints }
 {
     if let Some(rule) = p.events.order_rule(Kind::Model) {
         return Some(rule);
@@ -129,12 +136,13 @@ fn judge_model(p: &mut Parts, m: &[Lit]) -> Option<Rule>
     None
 }
 
-/// Judges a core.
+/// Judges a core. It takes no memory.
 fn judge_core(p: &mut Parts, u: &[Lit], hints: &[Id]) -> Option<Rule>
     requires inside { HasHintRoom p.old.store p.old.events p.old.hints }
-    requires reserved { AreReserved p.old.events u.now }
+    requires room { AreBelow u.now p.old.hints }
     ensures judged { JudgedId (state_of_ids p.old) (state_of_ids p.new) (lsteps.Core u.now hints.now) result }
     ensures inside { HasHintRoom p.new.store p.new.events p.new.hints }
+    ensures room { p.new.hints ≡ p.old.hints }
 {
     if let Some(rule) = p.events.order_rule(Kind::Core) {
         return Some(rule);
@@ -161,6 +169,7 @@ fn judge_lemma(
     requires reserved { AreReserved p.old.events lits.now }
     ensures judged { IfOk result (λ r. JudgedId (state_of_ids p.old) (state_of_ids p.new) (lsteps.Lemma id lits.now hints.now) r) }
     ensures inside { HasHintRoom p.new.store p.new.events p.new.hints }
+    ensures room { p.new.hints ≡ p.old.hints }
 {
     negate(&mut p.negations, lits)?;
     let end = p.hints.run(&p.store, p.negations.as_slice(), hints);
@@ -180,6 +189,7 @@ fn judge_deletion(p: &mut Parts, ids: &[Id]) -> Option<Rule>
     requires { HasHintRoom p.old.store p.old.events p.old.hints }
     ensures judged { JudgedId (state_of_ids p.old) (state_of_ids p.new) (lsteps.Delete ids.now) result }
     ensures inside { HasHintRoom p.new.store p.new.events p.new.hints }
+    ensures room { p.new.hints ≡ p.old.hints }
 {
     match delete_each(&mut p.store, ids) {
         Some(place) => Some(Rule::NotActive(place)),
@@ -192,6 +202,7 @@ fn judge_weakening(p: &mut Parts, ids: &[Id]) -> Result<Option<Rule>, AllocError
     requires { HasHintRoom p.old.store p.old.events p.old.hints }
     ensures judged { IfOk result (λ r. JudgedId (state_of_ids p.old) (state_of_ids p.new) (lsteps.Weaken ids.now) r) }
     ensures inside { HasHintRoom p.new.store p.new.events p.new.hints }
+    ensures room { p.new.hints ≡ p.old.hints }
 {
     match weaken_each(&mut p.store, ids) {
         Ok(Some(place)) => Ok(Some(Rule::NotActive(place))),
@@ -205,6 +216,7 @@ fn judge_restoring(p: &mut Parts, ids: &[Id]) -> Result<Option<Rule>, AllocError
     requires { HasHintRoom p.old.store p.old.events p.old.hints }
     ensures judged { IfOk result (λ r. JudgedId (state_of_ids p.old) (state_of_ids p.new) (lsteps.Restore ids.now) r) }
     ensures inside { HasHintRoom p.new.store p.new.events p.new.hints }
+    ensures room { p.new.hints ≡ p.old.hints }
 {
     match restore_each(&mut p.store, ids) {
         Ok(Some(place)) => Ok(Some(Rule::NotWeakened(place))),
@@ -224,6 +236,7 @@ fn take_input(
     ensures judged { IfOk result (λ r. JudgedIdThrough numbers.old.vars numbers.new.vars (state_of_ids p.old) (state_of_ids p.new) (lsteps.Input id lits.now) r) }
     ensures continues { Continues numbers.old.vars numbers.new.vars }
     ensures inside { HasHintRoom p.new.store p.new.events p.new.hints }
+    ensures room { OnOk result (length numbers.new.vars ≤ p.new.hints) }
 {
     number(p, numbers, lits)?;
     match judge_input(p, id, numbers.lits()) {
@@ -244,6 +257,7 @@ fn take_lemma(
     ensures judged { IfOk result (λ r. JudgedIdThrough numbers.old.vars numbers.new.vars (state_of_ids p.old) (state_of_ids p.new) (lsteps.Lemma id lits.now hints.now) r) }
     ensures continues { Continues numbers.old.vars numbers.new.vars }
     ensures inside { HasHintRoom p.new.store p.new.events p.new.hints }
+    ensures room { OnOk result (length numbers.new.vars ≤ p.new.hints) }
 {
     number(p, numbers, lits)?;
     match judge_lemma(p, id, numbers.lits(), hints) {
@@ -262,6 +276,7 @@ fn take_query(
     ensures judged { IfOk result (λ r. JudgedIdThrough numbers.old.vars numbers.new.vars (state_of_ids p.old) (state_of_ids p.new) (lsteps.Query lits.now) r) }
     ensures continues { Continues numbers.old.vars numbers.new.vars }
     ensures inside { HasHintRoom p.new.store p.new.events p.new.hints }
+    ensures room { OnOk result (length numbers.new.vars ≤ p.new.hints) }
 {
     number(p, numbers, lits)?;
     match judge_query(p, numbers.lits()) {
@@ -280,6 +295,7 @@ fn take_model(
     ensures judged { IfOk result (λ r. JudgedIdThrough numbers.old.vars numbers.new.vars (state_of_ids p.old) (state_of_ids p.new) (lsteps.Model lits.now) r) }
     ensures continues { Continues numbers.old.vars numbers.new.vars }
     ensures inside { HasHintRoom p.new.store p.new.events p.new.hints }
+    ensures room { OnOk result (length numbers.new.vars ≤ p.new.hints) }
 {
     number(p, numbers, lits)?;
     let answer = judge_model(p, numbers.lits());
@@ -287,28 +303,31 @@ fn take_model(
 }
 
 /// Follows the hints of a core that has a literal without a number. Such a literal is in no clause, so the others are followed
-/// alone, unless two without a number are opposite.
+/// alone, unless two without a number are opposite. It takes no memory for at most 16 literals.
 fn follow_strange(
     p: &mut Parts,
     numbers: &mut Numbers,
     u: &[Lit],
     hints: &[Id],
 ) -> Result<HintEnd, AllocError>
-    requires { HasHintRoom p.old.store p.old.events p.old.hints }
+    requires inside { HasHintRoom p.old.store p.old.events p.old.hints }
+    requires room { length numbers.old.vars ≤ p.old.hints }
     ensures end { IfOk result (λ end. (ps : List LStep) → AreAfterIdsThrough numbers.old.vars (state_of_ids p.old) ps
         → end ≡ end_of (hints_fail (active_clause ps) u.now hints.now)) }
     ensures vars { numbers.new.vars ≡ numbers.old.vars }
-    ensures stands { (ps : List LStep) → AreAfterIds (state_of_ids p.old) ps → AreAfterIds (state_of_ids p.new) ps }
+    ensures kept { state_of_ids p.new ≡ state_of_ids p.old }
     ensures inside { HasHintRoom p.new.store p.new.events p.new.hints }
+    ensures room { p.new.hints ≡ p.old.hints }
+    ensures short { length u.now ≤ 16 → IsOk result }
 {
-    if numbers.find_known(u)? {
-        return Ok(HintEnd::Closed);
+    match numbers.find_known(u) {
+        Ok(true) => Ok(HintEnd::Closed),
+        Ok(false) => Ok(p.hints.run(&p.store, numbers.lits(), hints)),
+        Err(_) => Err(AllocError),
     }
-    reserve(p, numbers)?;
-    Ok(p.hints.run(&p.store, numbers.lits(), hints))
 }
 
-/// Judges a core of the file that has a literal without a number.
+/// Judges a core of the file that has a literal without a number. It takes no memory for at most 16 literals.
 fn judge_strange_core(
     p: &mut Parts,
     numbers: &mut Numbers,
@@ -316,40 +335,51 @@ fn judge_strange_core(
     hints: &[Id],
 ) -> Result<Option<Rule>, AllocError>
     requires inside { HasHintRoom p.old.store p.old.events p.old.hints }
+    requires room { length numbers.old.vars ≤ p.old.hints }
     requires strange { are_known numbers.old.vars u.now ≡ false }
     ensures judged { IfOk result (λ r. JudgedIdThrough numbers.old.vars numbers.new.vars (state_of_ids p.old) (state_of_ids p.new) (lsteps.Core u.now hints.now) r) }
     ensures vars { numbers.new.vars ≡ numbers.old.vars }
     ensures inside { HasHintRoom p.new.store p.new.events p.new.hints }
+    ensures room { p.new.hints ≡ p.old.hints }
+    ensures short { length u.now ≤ 16 → IsOk result }
 {
     if let Some(rule) = p.events.order_rule(Kind::Core) {
         return Ok(Some(rule));
     }
-    match follow_strange(p, numbers, u, hints)? {
-        HintEnd::Closed => {}
-        HintEnd::Fails { position } => return Ok(Some(Rule::Hint(position))),
+    match follow_strange(p, numbers, u, hints) {
+        Ok(HintEnd::Closed) => {}
+        Ok(HintEnd::Fails { position }) => return Ok(Some(Rule::Hint(position))),
+        Err(fault) => return Err(fault),
     }
-    numbers.find(u)?;
-    Ok(Some(first_stranger(&mut p.events, numbers, u)))
+    match numbers.find(u) {
+        Ok(_) => Ok(Some(first_stranger(&mut p.events, numbers, u))),
+        Err(fault) => Err(fault),
+    }
 }
 
-/// Judges a core of the file.
+/// Judges a core of the file. It takes no memory for at most 16 literals.
 fn take_core(
     p: &mut Parts,
     numbers: &mut Numbers,
     u: &[Lit],
     hints: &[Id],
 ) -> Result<Option<Rule>, AllocError>
-    requires { HasHintRoom p.old.store p.old.events p.old.hints }
+    requires inside { HasHintRoom p.old.store p.old.events p.old.hints }
+    requires room { length numbers.old.vars ≤ p.old.hints }
     ensures judged { IfOk result (λ r. JudgedIdThrough numbers.old.vars numbers.new.vars (state_of_ids p.old) (state_of_ids p.new) (lsteps.Core u.now hints.now) r) }
     ensures vars { numbers.new.vars ≡ numbers.old.vars }
     ensures inside { HasHintRoom p.new.store p.new.events p.new.hints }
+    ensures room { p.new.hints ≡ p.old.hints }
+    ensures short { length u.now ≤ 16 → IsOk result }
 {
-    if numbers.find(u)? {
-        reserve(p, numbers)?;
-        let answer = judge_core(p, numbers.lits(), hints);
-        return Ok(shown_answer(answer, numbers.dense()));
+    match numbers.find(u) {
+        Ok(true) => {
+            let answer = judge_core(p, numbers.lits(), hints);
+            Ok(shown_answer(answer, numbers.dense()))
+        }
+        Ok(false) => judge_strange_core(p, numbers, u, hints),
+        Err(fault) => Err(fault),
     }
-    judge_strange_core(p, numbers, u, hints)
 }
 
 /// Judges a status of the file. It takes no memory.
@@ -357,6 +387,7 @@ fn take_status(p: &mut Parts, numbers: &Numbers, word: StatusWord) -> Option<Rul
     requires { HasHintRoom p.old.store p.old.events p.old.hints }
     ensures judged { JudgedIdThrough numbers.now.vars numbers.now.vars (state_of_ids p.old) (state_of_ids p.new) (lsteps.Status word) result }
     ensures inside { HasHintRoom p.new.store p.new.events p.new.hints }
+    ensures room { p.new.hints ≡ p.old.hints }
 {
     let answer = judge_status(p, word);
     shown_answer(answer, numbers.dense())
@@ -367,6 +398,7 @@ fn take_deletion(p: &mut Parts, numbers: &Numbers, ids: &[Id]) -> Option<Rule>
     requires { HasHintRoom p.old.store p.old.events p.old.hints }
     ensures judged { JudgedIdThrough numbers.now.vars numbers.now.vars (state_of_ids p.old) (state_of_ids p.new) (lsteps.Delete ids.now) result }
     ensures inside { HasHintRoom p.new.store p.new.events p.new.hints }
+    ensures room { p.new.hints ≡ p.old.hints }
 {
     let answer = judge_deletion(p, ids);
     shown_answer(answer, numbers.dense())
@@ -377,6 +409,7 @@ fn take_weakening(p: &mut Parts, numbers: &Numbers, ids: &[Id]) -> Result<Option
     requires { HasHintRoom p.old.store p.old.events p.old.hints }
     ensures judged { IfOk result (λ r. JudgedIdThrough numbers.now.vars numbers.now.vars (state_of_ids p.old) (state_of_ids p.new) (lsteps.Weaken ids.now) r) }
     ensures inside { HasHintRoom p.new.store p.new.events p.new.hints }
+    ensures room { p.new.hints ≡ p.old.hints }
 {
     match judge_weakening(p, ids) {
         Ok(answer) => Ok(shown_answer(answer, numbers.dense())),
@@ -389,6 +422,7 @@ fn take_restoring(p: &mut Parts, numbers: &Numbers, ids: &[Id]) -> Result<Option
     requires { HasHintRoom p.old.store p.old.events p.old.hints }
     ensures judged { IfOk result (λ r. JudgedIdThrough numbers.now.vars numbers.now.vars (state_of_ids p.old) (state_of_ids p.new) (lsteps.Restore ids.now) r) }
     ensures inside { HasHintRoom p.new.store p.new.events p.new.hints }
+    ensures room { p.new.hints ≡ p.old.hints }
 {
     match judge_restoring(p, ids) {
         Ok(answer) => Ok(shown_answer(answer, numbers.dense())),
@@ -398,11 +432,13 @@ fn take_restoring(p: &mut Parts, numbers: &Numbers, ids: &[Id]) -> Result<Option
 
 /// Judges a step of the file.
 fn judge(p: &mut Parts, numbers: &mut Numbers, step: &LStep) -> Result<Option<Rule>, AllocError>
-    requires { HasHintRoom p.old.store p.old.events p.old.hints }
+    requires inside { HasHintRoom p.old.store p.old.events p.old.hints }
+    requires room { length numbers.old.vars ≤ p.old.hints }
     ensures judged { IfOk result (λ r. JudgedIdThrough numbers.old.vars numbers.new.vars (state_of_ids p.old) (state_of_ids p.new) step.now r) }
     ensures continues { Continues numbers.old.vars numbers.new.vars }
     ensures inside { HasHintRoom p.new.store p.new.events p.new.hints }
-    ensures frugal { IsTrue (takes_no_memory step.now) → IsOk result }
+    ensures room { OnOk result (length numbers.new.vars ≤ p.new.hints) }
+    ensures frugal { IsTrue (is_frugal_with_ids step.now) → IsOk result }
 {
     match step {
         LStep::Input { id, lits } => take_input(p, numbers, *id, lits.as_slice()),
@@ -423,7 +459,7 @@ fn judge(p: &mut Parts, numbers: &mut Numbers, step: &LStep) -> Result<Option<Ru
 fn keep_asked(asked: &mut Vec<Lit>, step: &LStep) -> Result<(), AllocError>
     ensures ok { OnOk result (asked.new.items ≡ asked_after_id asked.old.items step.now) }
     ensures err { OnErr result (asked.new.items ≡ asked.old.items) }
-    ensures frugal { IsTrue (takes_no_memory step.now) → IsOk result }
+    ensures frugal { IsTrue (is_frugal_with_ids step.now) → IsOk result }
 {
     match step {
         LStep::Query(lits) => refill(asked, lits.as_slice()),
@@ -439,12 +475,14 @@ fn judge_and_keep(
     step: &LStep,
 ) -> Result<Option<Rule>, AllocError>
     requires inside { HasHintRoom p.old.store p.old.events p.old.hints }
+    requires room { length numbers.old.vars ≤ p.old.hints }
     requires known { IsTrue (are_known numbers.old.vars asked.old.items) }
     ensures judged { IfOk result (λ r. JudgedIdThrough numbers.old.vars numbers.new.vars (state_of_ids p.old) (state_of_ids p.new) step.now r) }
     ensures asked { IfOk result (λ r. IfNone r (asked.new.items ≡ asked_after_id asked.old.items step.now)) }
     ensures known { IsTrue (are_known numbers.new.vars asked.new.items) }
     ensures inside { HasHintRoom p.new.store p.new.events p.new.hints }
-    ensures frugal { IsTrue (takes_no_memory step.now) → IsOk result }
+    ensures room { OnOk result (length numbers.new.vars ≤ p.new.hints) }
+    ensures frugal { IsTrue (is_frugal_with_ids step.now) → IsOk result }
 {
     match judge(p, numbers, step) {
         Ok(None) => {}
@@ -483,7 +521,7 @@ impl Model for LidrupSide {
 
     ghost view = { λ s. record { live = s.live; clauses = clauses_of_store s.parts.store; events = s.parts.events; vars = s.numbers.vars; asked = s.asked.items } };
 
-    ghost invariant = { λ s. IsReadyForIds s.parts.store s.parts.events s.parts.hints s.numbers.vars s.asked.items };
+    ghost invariant = { λ s. IsReadyForIds s.parts.store s.parts.events s.parts.hints s.numbers.vars s.asked.items s.live };
 }
 
 impl LidrupSide {
@@ -511,7 +549,7 @@ impl LidrupSide {
 
     /// The first own rule that the step breaks, or `None`. After `None` the side is live and stands for the steps so far
     /// with this one at their end; after a rule, or where memory is wanting, it isn't live and is given up. A status and a
-    /// deletion take no memory.
+    /// deletion take no memory, and neither does a core of at most 16 literals.
     #[tactic(auto, using(crate::proofs::TranslatingIds::id_step_stands))]
     pub fn step(&mut self, step: &LStep) -> Result<Option<Rule>, AllocError>
         requires live { IsTrue self.old.live }
@@ -520,7 +558,7 @@ impl LidrupSide {
         ensures known { IfOk result (λ r. IfNone r (IsTrue (is_known_id_step self.new.vars step.now))) }
         ensures live { IfOk result (λ r. self.new.live ≡ is_none r) }
         ensures err { OnErr result (self.new.live ≡ false) }
-        ensures frugal { IsTrue (takes_no_memory step.now) → IsOk result }
+        ensures frugal { IsTrue (is_frugal_with_ids step.now) → IsOk result }
     {
         let judged = judge_and_keep(&mut self.parts, &mut self.numbers, &mut self.asked, step);
         self.live = matches!(judged, Ok(None));

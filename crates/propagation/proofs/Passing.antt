@@ -8,9 +8,10 @@ use Rattle.session_rules.specs.Logic.{has, is_falsified}
 use Rattle.lits.proofs.Members.{has_at}
 use Rattle.clause_store.specs.Clauses.{Store, IsStore, IsSlot, slot_at, lits_at}
 use Rattle.watch_lists.specs.Watch.{WatchView, no_watch}
-use Rattle.watch_lists.specs.Watched.{Watched, IsWatched, IsWatch, list_at, entry_at, watch_at, slots_in}
+use Rattle.watch_lists.specs.Watched.{Watched, IsWatched, IsWatch, list_at, entry_at, watch_at, watch_place, slots_in}
 use Rattle.watch_lists.proofs.Members.{has-here, has-there, has-place, member_cases}
 use Rattle.watch_lists.proofs.Placed.{lits-literals}
+use Rattle.watch_lists.proofs.FirstTwo.{watch_place-low}
 use Rattle.propagation.specs.declared.TrailEntry.{TrailEntry}
 use Rattle.propagation.specs.Clauses.{clauses_of, slot_of, active_at}
 use Rattle.propagation.specs.Engine.{IsEngine, IsReason}
@@ -123,18 +124,17 @@ module _ (w : Watched) (l i s : ℕ) (list : List WatchView) (e : WatchView) (ls
   looks_watch = let at : slot_at w.clauses looked.0 ≡ Some (watch_at w l i).slot = looked.1 ∙ ap Some (reads_slot w l i s list e k.reads) in
       subst (λ z. IsWatch z l e) (k.lits looked.0 looked.1) (subst (λ z. IsWatch (lits_at w.clauses looked.0) l z) (sym (reads_entry w l i s list e k.reads)) (k.reads.sound.entries looked.0 l i k.reads.within at))
 
-  pub looks_beside : (trues : List ℕ) (other p : ℕ) → p ≡ e.place → other ≡ get_or ls (1 - p) other → has trues (neg l) ≡ true → (id : ℕ) → slot_at w.clauses id ≡ Some (watch_at w l i).slot → Beside w.clauses id s trues ls l other p
-  looks_beside trues other p low read f id at =
+  pub looks_beside : (trues : List ℕ) (other : ℕ) → other ≡ slice_index ls (1 - watch_place ls l) → has trues (neg l) ≡ true → (id : ℕ) → slot_at w.clauses id ≡ Some (watch_at w l i).slot → Beside w.clauses id s trues ls l other (watch_place ls l)
+  looks_beside trues other read f id at =
       let r = looks_watch in
-      let long : 2 ≤ length ls = r.long in
       record {
         store = k.reads.sound.store;
         slot = looks_slot id at;
         list = looks_lits id at;
-        low = subst (λ z. z ≤ 1) (sym low) r.low;
-        long = long;
-        here = ap (slice_index ls) low ∙ r.lit;
-        beside = read ∙ get_or_default ls (1 - p) other 0 (omega (arith, long));
+        low = watch_place-low ls l;
+        long = r.long;
+        here = r.lit;
+        beside = read;
         falsified = f;
       }
 

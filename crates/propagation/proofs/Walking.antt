@@ -9,9 +9,9 @@ use Rattle.session_rules.specs.Logic.{has}
 use Rattle.lits.proofs.Members.{has_from}
 use Rattle.clause_store.specs.Clauses.{IsOnce, slot_at, lits_at}
 use Rattle.watch_lists.specs.Watch.{WatchView}
-use Rattle.watch_lists.specs.Watched.{Watched, IsWatched, is_watch, list_at, watch_at, watchers, slots_in}
+use Rattle.watch_lists.specs.Watched.{Watched, IsWatched, is_watch, list_at, watch_at, watch_place, watchers, slots_in}
 use Rattle.watch_lists.proofs.Members.{member_cases, unlike}
-use Rattle.watch_lists.proofs.FirstTwo.{first_watch, second_watch, firsts-apart, once-lits}
+use Rattle.watch_lists.proofs.FirstTwo.{first_watch, second_watch, watch_place-low, firsts-apart, once-lits}
 use Rattle.propagation.specs.declared.TrailEntry.{TrailEntry}
 use Rattle.propagation.specs.Assigned.{Assigned}
 use Rattle.propagation.specs.Engine.{EngineView, literals, IsEngine}
@@ -185,7 +185,7 @@ module _ (w0 w w' : Watched) (a0 a a' : Assigned) (head l end i : ℕ) (v : Visi
   index_in = let lt = v.before in let le = v.walking.within in omega (arith, lt, le)
 
   -- the clause that was visited
-  visited : (id : ℕ) → slot_at w.clauses id ≡ Some (watch_at w l i).slot → IsPassed (literals a.entries) (literals a'.entries) (lits_at w.clauses id) (lits_at w'.clauses id) (watch_at w l i).place → IsCovered (literals a'.entries) (head + 1) (lits_at w'.clauses id)
+  visited : (id : ℕ) → slot_at w.clauses id ≡ Some (watch_at w l i).slot → IsPassed (literals a.entries) (literals a'.entries) (lits_at w.clauses id) (lits_at w'.clauses id) (watch_place (lits_at w.clauses id) l) → IsCovered (literals a'.entries) (head + 1) (lits_at w'.clauses id)
   visited id at (inl s) = inl s
   visited id at (inr r) = elim (v.walking.ready id (watch_at w l i).slot at) [
     | inl none ↦ absurd (let g : false ≡ true = none in cc g)
@@ -193,12 +193,12 @@ module _ (w0 w w' : Watched) (a0 a a' : Assigned) (head l end i : ℕ) (v : Visi
       | inl s ↦ inl (satisfied_still w w' a a' v.entries id s)
       | inr t ↦
           let e = v.walking.sound.entries id l i index_in at in
-          inr (rewatched_two (literals a.entries) (literals a'.entries) (lits_at w.clauses id) (lits_at w'.clauses id) head l (watch_at w l i).place (record {
+          inr (rewatched_two (literals a.entries) (literals a'.entries) (lits_at w.clauses id) (lits_at w'.clauses id) head l (watch_place (lits_at w.clauses id) l) (record {
             more = λ x m. has_take (head + 1) x (literals a.entries) (subst (λ z. has z x ≡ true) (same_take (head + 1) within_trail) m);
             first = λ x m. subst (λ z. has z x ≡ true) (same_take head (let le = within_trail in omega (arith, le))) m;
             is = same_next;
             once = once-lits w.clauses id (watch_at w l i).slot v.walking.sound.store at;
-            low = e.low;
+            low = watch_place-low (lits_at w.clauses id) l;
             here = e.lit;
             two = t;
           }) r)
@@ -206,7 +206,7 @@ module _ (w0 w w' : Watched) (a0 a a' : Assigned) (head l end i : ℕ) (v : Visi
   ]
 
   -- the clause of an entry before the end
-  placed : ((id : ℕ) → slot_at w.clauses id ≡ Some (watch_at w l i).slot → IsPassed (literals a.entries) (literals a'.entries) (lits_at w.clauses id) (lits_at w'.clauses id) (watch_at w l i).place)
+  placed : ((id : ℕ) → slot_at w.clauses id ≡ Some (watch_at w l i).slot → IsPassed (literals a.entries) (literals a'.entries) (lits_at w.clauses id) (lits_at w'.clauses id) (watch_place (lits_at w.clauses id) l))
       → (id t : ℕ) → slot_at w.clauses id ≡ Some t → StandsAt (list_at w.lists l) end t → (has (slots_in (take i (list_at w'.lists l))) t ≡ true) ⊎ IsCovered (literals a'.entries) (head + 1) (lits_at w'.clauses id)
   placed d id t at p = elim (cases p.at i) [
     | inl y ↦
@@ -221,7 +221,7 @@ module _ (w0 w w' : Watched) (a0 a a' : Assigned) (head l end i : ℕ) (v : Visi
       order : (k : ℕ) → (k ≡ i → ⊥) → (k < i) ⊎ (i < k)
       order k n = grind arith
 
-  pub visits_next : ((id : ℕ) → slot_at w.clauses id ≡ Some (watch_at w l i).slot → IsPassed (literals a.entries) (literals a'.entries) (lits_at w.clauses id) (lits_at w'.clauses id) (watch_at w l i).place) → IsWalking w0 w' a0 a' head l i
+  pub visits_next : ((id : ℕ) → slot_at w.clauses id ≡ Some (watch_at w l i).slot → IsPassed (literals a.entries) (literals a'.entries) (lits_at w.clauses id) (lits_at w'.clauses id) (watch_place (lits_at w.clauses id) l)) → IsWalking w0 w' a0 a' head l i
   visits_next d = record {
     entries = visits_steps;
     ready = visits_ready;

@@ -5,7 +5,7 @@ use Rattle.lits.specs.Literal.{neg}
 use Rattle.session_rules.specs.Logic.{has}
 use Rattle.clause_store.specs.Clauses.{Store, slot_at, lits_at}
 use Rattle.watch_lists.specs.Watch.{WatchView}
-use Rattle.watch_lists.specs.Watched.{Watched, entry_at, watch_at}
+use Rattle.watch_lists.specs.Watched.{Watched, entry_at, watch_at, watch_place}
 use Rattle.propagation.specs.declared.TrailEntry.{TrailEntry}
 use Rattle.propagation.specs.declared.Consequence.{Consequence}
 use Rattle.propagation.specs.declared.Consequence.TheVariants as follows
@@ -116,7 +116,7 @@ IsPassed before trues old new place = IsSatisfied trues new ⊎ IsRewatched befo
 -- the clause of an entry at a place of a literal's list needs no further look
 abbrev pub IsVisited : Assigned → Assigned → Watched → Watched → ℕ → ℕ → Type 0
 IsVisited before after old new w i = (id : ℕ) → slot_at old.clauses id ≡ Some (watch_at old w i).slot
-    → IsPassed (literals before.entries) (literals after.entries) (lits_at old.clauses id) (lits_at new.clauses id) (watch_at old w i).place
+    → IsPassed (literals before.entries) (literals after.entries) (lits_at old.clauses id) (lits_at new.clauses id) (watch_place (lits_at old.clauses id) w)
 
 -- ---- Steps of a propagation
 

@@ -567,6 +567,3 @@ pub fn law_of_places()
     ensures negation { (e : EngineView) (l : ℕ) → IsEngine e → IsTrue (logic.has (literals e.trail) l)
         → logic.has (literals e.trail) (neg l) ≡ false }
 {}
-
-#[cfg(test)]
-mod tests;

@@ -10,7 +10,7 @@ ghost use Rattle.std.specs.List.{filter};
 ghost use Rattle.lits.specs.Literal.{var, neg};
 ghost use Rattle.session_rules.specs.Logic.{has};
 ghost use Rattle.clause_store.specs.Clauses.{slot_at, lits_at, IsSlot};
-ghost use Rattle.watch_lists.specs.Watched.{IsWatched, list_at, entry_at, watch_at};
+ghost use Rattle.watch_lists.specs.Watched.{IsWatched, list_at, entry_at, watch_at, watch_place};
 ghost use Rattle.propagation.specs.Engine.{literals, IsEngine, IsFalseAt};
 ghost use Rattle.propagation.specs.Watching.{engine_in, AtSlot, IsVisited, IsNextFree, IsLastOpen, IsBrought, IsPair, IsMoved, IsConsequence, IsReady, IsDone, IsPassed, NeedsNoVisit, Advances};
 
@@ -138,6 +138,15 @@ fn last_open(trail: &Assignment, list: &[Watch], end: usize) -> Option<usize>
     None
 }
 
+/// That of the first two literals of a list which isn't this one.
+#[inline(always)]
+fn other_watch(lits: &[Lit], w: Lit) -> Lit
+    requires { 2 ≤ length lits.now }
+    ensures { result ≡ slice_index lits.now (1 - watch_place lits.now w) }
+{
+    if lits[0] == w { lits[1] } else { lits[0] }
+}
+
 /// Where a literal beyond the first two of a clause's list isn't false, an entry for a false one needs no further look: a true
 /// one becomes the blocker, and another is watched in place of the false one.
 #[inline(always)]
@@ -181,7 +190,7 @@ fn visit_entry(watches: &mut Watches, trail: &mut Assignment, w: Lit, i: usize) 
     let watch = watches.list(w)[i];
     let slot = watch.slot();
     let lits = watches.lits(slot);
-    let other = lits[1 - watch.place()];
+    let other = other_watch(lits, w);
     if trail.is_true(other) {
         watches.block(w, i, other);
         return None;

@@ -18,9 +18,6 @@ use lits::{Lit, MAX_VAR};
 use std::alloc::{AllocError, Global};
 use std::marker::Model;
 
-#[cfg(test)]
-mod tests;
-
 /// One clause that is resolved with others. Contracts see the greatest reserved variable and the clause.
 #[derive(Drop)]
 pub struct Resolver {

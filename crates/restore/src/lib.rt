@@ -19,6 +19,3 @@ pub use laws::{
 pub use lists::{Elim, ElimList, Kept, KeptList};
 pub use stack::Stack;
 pub use values::Values;
-
-#[cfg(test)]
-mod tests;

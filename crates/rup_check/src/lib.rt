@@ -112,6 +112,3 @@ pub fn closes_with(
     engine.back_to(0);
     Ok(false)
 }
-
-#[cfg(test)]
-mod tests;

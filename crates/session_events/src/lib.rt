@@ -14,8 +14,6 @@ ghost use Rattle.session_events.specs.State.{StandsFor, AreReserved, start, with
 mod clause_list;
 mod laws;
 mod rules;
-#[cfg(test)]
-mod tests;
 mod ticks;
 
 pub use clause_list::ClauseList;

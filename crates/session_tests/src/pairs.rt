@@ -192,6 +192,80 @@ const HINTS: [Pair; 10] = [
     },
 ];
 
+// Literals that are forced stay no longer than their reasons.
+const REASONS: [Pair; 4] = [
+    Pair {
+        shows: "a clause that forces nothing is deleted",
+        interaction: "p icnf / i 1 0 / i -1 2 0 / i 3 4 0",
+        proof: "p idrup / i 1 0 / i -1 2 0 / i 3 4 0 / l 6 2 0 / d 3 4 0 / l 5 2 0",
+        report: "accepted 0 queries",
+    },
+    Pair {
+        shows: "a unit clause is deleted",
+        interaction: "p icnf / i 1 0 / i -1 2 0 / i 3 4 0",
+        proof: "p idrup / i 1 0 / i -1 2 0 / i 3 4 0 / l 6 2 0 / d 1 0 / l 5 2 0",
+        report: "refused proof 7 Lemma",
+    },
+    Pair {
+        shows: "a reason is deleted",
+        interaction: "p icnf / i 1 0 / i -1 2 0 / i 3 4 0",
+        proof: "p idrup / i 1 0 / i -1 2 0 / i 3 4 0 / l 6 2 0 / d 2 -1 0 / l 5 2 0",
+        report: "refused proof 7 Lemma",
+    },
+    Pair {
+        shows: "a reason is weakened",
+        interaction: "p icnf / i 1 0 / i -1 2 0 / i 3 4 0",
+        proof: "p idrup / i 1 0 / i -1 2 0 / i 3 4 0 / l 6 2 0 / w 2 -1 0 / l 5 2 0",
+        report: "refused proof 7 Lemma",
+    },
+];
+
+// Answers with ids and hints, and ids that are taken.
+const ANSWERS_WITH_IDS: [Pair; 7] = [
+    Pair {
+        shows: "the hints of a core end too early",
+        interaction: "p icnf / i 1 2 0 / i -1 2 0 / q -2 0 / s UNSATISFIABLE / u -2 0",
+        proof: "p lidrup / i 1 1 2 0 / i 2 -1 2 0 / w 1 0 / q -2 0 / s UNSATISFIABLE / u -2 0 2 0",
+        report: "refused proof 7 Hint 2",
+    },
+    Pair {
+        shows: "the hint of a core is satisfied",
+        interaction: "p icnf / i 1 2 0 / i -1 2 0 / q -2 0 / s UNSATISFIABLE / u 2 0",
+        proof: "p lidrup / i 1 1 2 0 / i 2 -1 2 0 / q -2 0 / s UNSATISFIABLE / u 2 0 2 0",
+        report: "refused proof 6 Hint 1",
+    },
+    Pair {
+        shows: "a core has a stranger, with ids",
+        interaction: "p icnf / i 1 2 0 / i -1 2 0 / q -2 0 / s UNSATISFIABLE / u -2 2 0",
+        proof: "p lidrup / i 1 1 2 0 / i 2 -1 2 0 / q -2 0 / s UNSATISFIABLE / u -2 2 0 0",
+        report: "refused proof 6 CoreStranger 2",
+    },
+    Pair {
+        shows: "a weakened input counts for a model, with ids",
+        interaction: "p icnf / i 1 2 0 / q 0 / s SATISFIABLE / m -1 -2 0",
+        proof: "p lidrup / i 1 1 2 0 / w 1 0 / q 0 / s SATISFIABLE / m -1 -2 0",
+        report: "refused proof 6 ModelInput 1",
+    },
+    Pair {
+        shows: "a weakened clause keeps its id",
+        interaction: "p icnf / i 1 2 0 / i 3 0",
+        proof: "p lidrup / i 1 1 2 0 / w 1 0 / i 1 3 0",
+        report: "refused proof 4 IdTaken",
+    },
+    Pair {
+        shows: "an id is weakened twice on a line",
+        interaction: "p icnf / i 1 2 0 / i -1 3 0 / i -1 -3 0",
+        proof: "p lidrup / i 1 1 2 0 / i 2 -1 3 0 / i 3 -1 -3 0 / w 3 1 3 0",
+        report: "refused proof 5 NotActive 3",
+    },
+    Pair {
+        shows: "a model behind an unsatisfiable answer",
+        interaction: "p icnf / i 1 0 / q 0 / s UNSATISFIABLE / m 1 0",
+        proof: "p lidrup / i 1 1 0 / q 0 / s UNSATISFIABLE / m 1 0",
+        report: "refused proof 5 Order",
+    },
+];
+
 // Opposite literals, and long words.
 const OPPOSITES: [Pair; 7] = [
     Pair {
@@ -604,6 +678,24 @@ fn clauses_come_and_go(rt: HostRuntime) -> Result<(), Fail> {
 fn ids_and_hints_are_judged(rt: HostRuntime) -> Result<(), Fail> {
     assert_eq!(rt;
         first_told_otherwise(rt.alloc(), &HINTS, &[1, 2, 65_535, 65_536])?,
+        None
+    );
+    Ok(())
+}
+
+#[test]
+fn literals_stay_no_longer_than_their_reasons(rt: HostRuntime) -> Result<(), Fail> {
+    assert_eq!(rt;
+        first_told_otherwise(rt.alloc(), &REASONS, &[1, 2, 65_535, 65_536])?,
+        None
+    );
+    Ok(())
+}
+
+#[test]
+fn answers_with_ids_are_judged(rt: HostRuntime) -> Result<(), Fail> {
+    assert_eq!(rt;
+        first_told_otherwise(rt.alloc(), &ANSWERS_WITH_IDS, &[1, 2, 65_535, 65_536])?,
         None
     );
     Ok(())

@@ -22,6 +22,3 @@ mod window;
 
 pub use token::{Token, TokenFault};
 pub use window::Window;
-
-#[cfg(test)]
-mod tests;

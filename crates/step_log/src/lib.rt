@@ -189,6 +189,3 @@ fn fault_of(written: Result<(), WriteFault>) -> Result<(), LogFault>
         Err(WriteFault::Exhausted) => Err(LogFault::Exhausted),
     }
 }
-
-#[cfg(test)]
-mod tests;

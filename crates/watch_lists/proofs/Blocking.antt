@@ -1,5 +1,5 @@
 -- An entry gets another blocker.
-use Rattle.std.proofs.Common.{◌≡◌, ℕ, suc, zero, ◌<◌, ◌≤◌, List, [], ◌∷◌, length, map, take, get_or, Some, refl, sym, ap, ◌∙◌, subst, inl, inr, arith, true, false, nat_eq, eqb-true}
+use Rattle.std.proofs.Common.{◌≡◌, ℕ, suc, zero, ◌<◌, List, [], ◌∷◌, length, map, take, get_or, Some, refl, sym, ap, ◌∙◌, subst, inl, inr, arith, true, false, nat_eq, eqb-true}
 use Rattle.std.specs.Prelude.{slice_set}
 use Rattle.std.proofs.lemmas.Bool.{cases_Bool}
 use Rattle.std.proofs.lemmas.List.{take-set, length-set, get_or-set_same, get_or-set_other, get_or_read_under}
@@ -15,18 +15,17 @@ use Rattle.watch_lists.proofs.Calling.{lists_seen, lists_set}
 pub record Alike (es new : List WatchView) : Type 0 where
   pub long : length new ≡ length es
   pub slot : (i : ℕ) → (entry_at new i).slot ≡ (entry_at es i).slot
-  pub place : (i : ℕ) → (entry_at new i).place ≡ (entry_at es i).place
 
-pub listed_alike : (R : ℕ → ℕ → ℕ → Type 0) (rows new : List RowView) (places : List ℕ) → ((l : ℕ) → Alike (watches_at rows l) (watches_at new l)) → AreListed R rows places → AreListed R new places
-listed_alike R rows new places a k = record {
+pub listed_alike : {f : ℕ → ℕ → ℕ} (R : ℕ → ℕ → ℕ → Type 0) (rows new : List RowView) (places : List ℕ) → ((l : ℕ) → Alike (watches_at rows l) (watches_at new l)) → AreListed R f rows places → AreListed R f new places
+listed_alike {f} R rows new places a k = record {
   here = λ s p l r. let h = k.here s p l r in record {
     within = subst (λ n. place_in places s p < n) (sym (a l).long) h.within;
     slot = (a l).slot (place_in places s p) ∙ h.slot;
-    place = (a l).place (place_in places s p) ∙ h.place;
   };
-  back = λ l i lt. subst (λ t. R t (entry_at (watches_at new l) i).place l) (sym ((a l).slot i)) (subst (λ p. R (entry_at (watches_at rows l) i).slot p l) (sym ((a l).place i)) (k.back l i (subst (λ n. i < n) (a l).long lt)));
-  placed = λ l i lt. (λ j. place_in places ((a l).slot i j) ((a l).place i j)) ∙ k.placed l i (subst (λ n. i < n) (a l).long lt);
-  low = λ l i lt. subst (λ p. p ≤ 1) (sym ((a l).place i)) (k.low l i (subst (λ n. i < n) (a l).long lt));
+  tied = k.tied;
+  back = λ l i lt. subst (λ t. R t (f t l) l) (sym ((a l).slot i)) (k.back l i (subst (λ n. i < n) (a l).long lt));
+  placed = λ l i lt. ap (λ t. place_in places t (f t l)) ((a l).slot i) ∙ k.placed l i (subst (λ n. i < n) (a l).long lt);
+  low = k.low;
 }
 
 -- the list with one blocker changed
@@ -46,10 +45,6 @@ alike_reblocked es i b lt = record {
   slot = λ j. elim (cases_Bool (nat_eq j i)) [
     | inl y ↦ subst (λ z. (entry_at (reblocked es i b) z).slot ≡ (entry_at es z).slot) (sym (eqb-true j i y)) (ap (λ e. e.slot) (at-changed es i b lt))
     | inr d ↦ ap (λ e. e.slot) (at-other es i b j d)
-  ];
-  place = λ j. elim (cases_Bool (nat_eq j i)) [
-    | inl y ↦ subst (λ z. (entry_at (reblocked es i b) z).place ≡ (entry_at es z).place) (sym (eqb-true j i y)) (ap (λ e. e.place) (at-changed es i b lt))
-    | inr d ↦ ap (λ e. e.place) (at-other es i b j d)
   ];
 }
 
@@ -79,7 +74,7 @@ module _ (m : Store) (rows new : List RowView) (l i b : ℕ) (c : Blocks m rows 
   alike : (k : ℕ) → Alike (watches_at rows k) (watches_at new k)
   alike k = elim (cases_Bool (nat_eq k l)) [
     | inl y ↦ subst (λ z. Alike (watches_at rows z) (watches_at new z)) (sym (eqb-true k l y)) (subst (λ es. Alike (watches_at rows l) es) (sym (ap (λ r. r.watches) row-here)) (alike_reblocked (watches_at rows l) i b c.within))
-    | inr d ↦ subst (λ r. Alike (watches_at rows k) r.watches) (sym (row-there k d)) (record { long = refl; slot = λ j. refl; place = λ j. refl })
+    | inr d ↦ subst (λ r. Alike (watches_at rows k) r.watches) (sym (row-there k d)) (record { long = refl; slot = λ j. refl })
   ]
 
   counts : (k : ℕ) → count_at new k ≡ count_at rows k

@@ -4,8 +4,8 @@ use Rattle.std.specs.Prelude.{slice_index}
 use Rattle.std.proofs.lemmas.List.{get_or_read_under}
 use Rattle.clause_store.specs.Clauses.{Store, IsSlot, IsStore, slot_at, lits_at, with_swap}
 use Rattle.watch_lists.specs.Watch.{node_at}
-use Rattle.watch_lists.specs.Watched.{Watched, entry_at, watch_at}
-use Rattle.watch_lists.specs.Lists.{RowView, watches_at, id_at, lits_of, nobody, StandsIn, AreKept, CanMove, seen}
+use Rattle.watch_lists.specs.Watched.{Watched, entry_at, watch_at, watch_place}
+use Rattle.watch_lists.specs.Lists.{RowView, watches_at, id_at, lits_of, watch_places, IsHere, nobody, StandsIn, AreKept, CanMove, seen}
 use Rattle.watch_lists.proofs.Placed.{id_at-slot, id_at-is}
 use Rattle.watch_lists.proofs.Calling.{lists_seen}
 
@@ -23,8 +23,8 @@ module _ (m : Store) (rows : List RowView) (places : List ℕ) (id s p k l i : �
   pub id_here : id_at m s ≡ id
   id_here = id_at-is m id s x.kept.stored x.slot
 
-  stands : StandsIn rows places s p l
-  stands = x.kept.listed.here s p l (
+  watching : IsHere nobody m s p l
+  watching = (
     record {
       slot = id_at-slot m id s x.slot;
       long = subst (λ q. 2 ≤ length (lits_at m q)) (sym id_here) (let a = x.within in let b = x.later in omega arith);
@@ -34,11 +34,14 @@ module _ (m : Store) (rows : List RowView) (places : List ℕ) (id s p k l i : �
     refl,
   )
 
+  stands : StandsIn rows places s p l
+  stands = x.kept.listed.here s p l watching
+
   pub entry_slot : (entry_at (watches_at rows l) i).slot ≡ s
   entry_slot = ap (λ j. (entry_at (watches_at rows l) j).slot) x.at ∙ stands.slot
 
-  pub entry_place : (entry_at (watches_at rows l) i).place ≡ p
-  entry_place = ap (λ j. (entry_at (watches_at rows l) j).place) x.at ∙ stands.place
+  pub entry_place : watch_places m (entry_at (watches_at rows l) i).slot l ≡ p
+  entry_place = ap (λ t. watch_places m t l) entry_slot ∙ x.kept.listed.tied s p l watching
 
   pub can_exchange : CanMove m rows places l i k
   can_exchange = record {
@@ -65,7 +68,7 @@ exchanges m rows places w s p k l i n kept v b low later within lit at e =
     }
 
 pub exchanged : (m : Store) (rows : List RowView) (places : List ℕ) (w : Watched) (id q s p k l i : ℕ) → Exchanges m rows places id s p k l i → seen m rows ≡ w → slot_at w.clauses q ≡ Some s
-    → with_swap m (id_at m (entry_at (watches_at rows l) i).slot) (entry_at (watches_at rows l) i).place k ≡ with_swap w.clauses q p k
+    → with_swap m (id_at m (entry_at (watches_at rows l) i).slot) (watch_places m (entry_at (watches_at rows l) i).slot l) k ≡ with_swap w.clauses q p k
 exchanged m rows places w id q s p k l i x v e =
     let slot : slot_at m q ≡ Some s = subst (λ z. slot_at z.clauses q ≡ Some s) (sym v) e in
     let at : id_at m (entry_at (watches_at rows l) i).slot ≡ q = ap (id_at m) (entry_slot m rows places id s p k l i x) ∙ id_at-is m q s x.kept.stored slot in
@@ -73,9 +76,9 @@ exchanged m rows places w id q s p k l i x v e =
 
 -- an entry's literal is exchanged, as callers see it
 pub moved : (m : Store) (rows : List RowView) (w : Watched) (l i k q : ℕ) → IsStore m → seen m rows ≡ w → slot_at w.clauses q ≡ Some (watch_at w l i).slot
-    → with_swap m (id_at m (entry_at (watches_at rows l) i).slot) (entry_at (watches_at rows l) i).place k ≡ with_swap w.clauses q (watch_at w l i).place k
+    → with_swap m (id_at m (entry_at (watches_at rows l) i).slot) (watch_places m (entry_at (watches_at rows l) i).slot l) k ≡ with_swap w.clauses q (watch_place (lits_at w.clauses q) l) k
 moved m rows w l i k q st v e =
     let same : entry_at (watches_at rows l) i ≡ watch_at (seen m rows) l i = ap (λ es. entry_at es i) (sym (lists_seen rows l)) in
     let slot : slot_at m q ≡ Some (entry_at (watches_at rows l) i).slot = subst (λ z. slot_at z.clauses q ≡ Some (watch_at z l i).slot) (sym v) e ∙ ap (λ x. Some x.slot) (sym same) in
     let at : id_at m (entry_at (watches_at rows l) i).slot ≡ q = id_at-is m q (entry_at (watches_at rows l) i).slot st slot in
-    (λ j. with_swap m (at j) (same j).place k) ∙ ap (λ z. with_swap z.clauses q (watch_at z l i).place k) v
+    (λ j. with_swap m (at j) (watch_place (lits_at m (at j)) l) k) ∙ ap (λ z. with_swap z.clauses q (watch_place (lits_at z.clauses q) l) k) v

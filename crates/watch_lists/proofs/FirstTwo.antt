@@ -1,10 +1,10 @@
 -- The first two literals of a list.
-use Rattle.std.proofs.Common.{◌≡◌, ℕ, ◌≤◌, ◌⊎◌, List, [], ◌∷◌, length, Some, refl, sym, ap, ◌∙◌, subst, inl, inr, arith, true, false, nat_eq, eqb-true, eq-eqb}
+use Rattle.std.proofs.Common.{◌≡◌, ℕ, ◌≤◌, ◌⊎◌, List, [], ◌∷◌, length, Some, refl, sym, ap, ◌∙◌, subst, inl, inr, cond, arith, Bool, true, false, nat_eq, eqb-true, eq-eqb}
 use Rattle.std.specs.Prelude.{option_and_then, slice_index}
 use Rattle.std.proofs.lemmas.Bool.{both_ways, or_cases, or_left, or_right, and_parts, and_from, le-leb}
 use Rattle.lits.specs.Clause.{has}
 use Rattle.clause_store.specs.Clauses.{Store, IsOnce, IsStore, slot_at, lits_at}
-use Rattle.watch_lists.specs.Watched.{is_watch}
+use Rattle.watch_lists.specs.Watched.{is_watch, watch_place}
 use Rattle.watch_lists.proofs.Members.{has-here, has-there, differs}
 use Rattle.watch_lists.proofs.Placed.{active, lits_placed}
 
@@ -31,6 +31,14 @@ firsts-apart (a ∷ b ∷ ls) o big = differs b a (λ e. both_ways _ o.0 (subst 
 -- the literals that are watched
 pub watch_cases : (ls : List ℕ) (l : ℕ) → is_watch ls l ≡ true → (slice_index ls 0 ≡ l) ⊎ (slice_index ls 1 ≡ l)
 watch_cases ls l h = elim (or_cases _ _ (and_parts _ _ h).1) [ inl e ↦ inl (eqb-true _ _ e) | inr e ↦ inr (eqb-true _ _ e) ]
+
+-- a place is 0 or 1
+pub watch_place-low : (ls : List ℕ) (l : ℕ) → watch_place ls l ≤ 1
+watch_place-low ls l = by_case (nat_eq (slice_index ls 0) l)
+  where
+    by_case : (b : Bool) → cond b 0 1 ≤ 1
+    by_case true = omega arith
+    by_case false = omega arith
 
 pub once-lits : (m : Store) (id s : ℕ) → IsStore m → slot_at m id ≡ Some s → IsOnce (lits_at m id)
 once-lits m id s st e =

@@ -9,36 +9,37 @@ use Rattle.clause_store.specs.Clauses.{ClauseEntry, Store, IsOnce, IsStore, IsRe
 use Rattle.clause_store.proofs.Stored.{get_cut, set_of_set}
 use Rattle.watch_lists.specs.Watch.{node_at}
 use Rattle.watch_lists.specs.Watched.{entry_at}
-use Rattle.watch_lists.specs.Lists.{RowView, watches_at, count_at, id_at, lits_of, place_in, HavePlaces, IsHere, nobody, AreListed, AreBlockers, HasRoom, AreKept, AreRaised, AreLowered}
+use Rattle.watch_lists.specs.Lists.{RowView, watches_at, count_at, id_at, lits_of, watch_places, place_in, HavePlaces, IsHere, nobody, AreListed, AreBlockers, HasRoom, AreKept, AreBeside, AreRaised, AreLowered}
 use Rattle.watch_lists.proofs.Members.{has-here, has-there, member_cases, differs}
 use Rattle.watch_lists.proofs.Placed.{active, id_at-slot, id_at-is, lits-literals, store-with, store-without}
 use Rattle.watch_lists.proofs.Putting.{Puts, puts-restored, places-put, places-cut, held-active, place-put, literals-put, slot-put}
 use Rattle.watch_lists.proofs.Listing.{listed_same}
+use Rattle.watch_lists.proofs.Watching.{watching-tied}
 
 -- ---- The same lists in other rows, and other tables
 
-pub listed_rows : (R : ℕ → ℕ → ℕ → Type 0) (rows new : List RowView) (places : List ℕ) → ((l : ℕ) → watches_at new l ≡ watches_at rows l) → AreListed R rows places → AreListed R new places
-listed_rows R rows new places e k = record {
+pub listed_rows : {f : ℕ → ℕ → ℕ} (R : ℕ → ℕ → ℕ → Type 0) (rows new : List RowView) (places : List ℕ) → ((l : ℕ) → watches_at new l ≡ watches_at rows l) → AreListed R f rows places → AreListed R f new places
+listed_rows {f} R rows new places e k = record {
   here = λ s p l r. let h = k.here s p l r in record {
     within = subst (λ es. place_in places s p < length es) (sym (e l)) h.within;
     slot = subst (λ es. (entry_at es (place_in places s p)).slot ≡ s) (sym (e l)) h.slot;
-    place = subst (λ es. (entry_at es (place_in places s p)).place ≡ p) (sym (e l)) h.place;
   };
-  back = λ l i. subst (λ es. i < length es → R (entry_at es i).slot (entry_at es i).place l) (sym (e l)) (k.back l i);
-  placed = λ l i. subst (λ es. i < length es → place_in places (entry_at es i).slot (entry_at es i).place ≡ i) (sym (e l)) (k.placed l i);
-  low = λ l i. subst (λ es. i < length es → (entry_at es i).place ≤ 1) (sym (e l)) (k.low l i);
+  tied = k.tied;
+  back = λ l i. subst (λ es. i < length es → R (entry_at es i).slot (f (entry_at es i).slot l) l) (sym (e l)) (k.back l i);
+  placed = λ l i. subst (λ es. i < length es → place_in places (entry_at es i).slot (f (entry_at es i).slot l) ≡ i) (sym (e l)) (k.placed l i);
+  low = k.low;
 }
 
-pub listed_places : (R : ℕ → ℕ → ℕ → Type 0) (rows : List RowView) (places new : List ℕ) → ((n : ℕ) → n < length places → slice_index new n ≡ slice_index places n) → ((s p l : ℕ) → R s p l → node_at s p < length places)
-    → AreListed R rows places → AreListed R rows new
-listed_places R rows places new e fits k = record {
+pub listed_places : {f : ℕ → ℕ → ℕ} (R : ℕ → ℕ → ℕ → Type 0) (rows : List RowView) (places new : List ℕ) → ((n : ℕ) → n < length places → slice_index new n ≡ slice_index places n) → ((s p l : ℕ) → R s p l → node_at s p < length places)
+    → AreListed R f rows places → AreListed R f rows new
+listed_places {f} R rows places new e fits k = record {
   here = λ s p l r. let h = k.here s p l r in let at : place_in new s p ≡ place_in places s p = e (node_at s p) (fits s p l r) in record {
     within = subst (λ i. i < length (watches_at rows l)) (sym at) h.within;
     slot = subst (λ i. (entry_at (watches_at rows l) i).slot ≡ s) (sym at) h.slot;
-    place = subst (λ i. (entry_at (watches_at rows l) i).place ≡ p) (sym at) h.place;
   };
+  tied = k.tied;
   back = k.back;
-  placed = λ l i lt. e (node_at (entry_at (watches_at rows l) i).slot (entry_at (watches_at rows l) i).place) (fits _ _ l (k.back l i lt)) ∙ k.placed l i lt;
+  placed = λ l i lt. e (node_at (entry_at (watches_at rows l) i).slot (f (entry_at (watches_at rows l) i).slot l)) (fits _ _ l (k.back l i lt)) ∙ k.placed l i lt;
   low = k.low;
 }
 
@@ -104,6 +105,9 @@ module _ (m n : Store) (id s : ℕ) (b : Beside m n id s) where
   pub lits_less : (t : ℕ) → nat_eq s t ≡ false → slot_at m (id_at m t) ≡ Some t → lits_of n t ≡ lits_of m t
   lits_less t apart e = ap (lits_at n) (id_less t apart e) ∙ ap (λ o. unwrap_or (option_map (λ p. p.lits) o) []) (b.others (id_at m t) (elsewhere t apart e))
 
+  pub are_beside : AreBeside m n s
+  are_beside = record { slot = λ t apart e. ap (slot_at n) (id_less t apart e) ∙ slot_less t apart e; lits = lits_less }
+
   -- an id of the smaller one is of the bigger one
   other : (q t : ℕ) → slot_at n q ≡ Some t → nat_eq id q ≡ false
   other q t e = differs id q (λ same. none-some t (sym b.none ∙ ap (slot_at n) same ∙ e))
@@ -144,7 +148,7 @@ module _ (m n : Store) (id s : ℕ) (b : Beside m n id s) where
   pub kept_less : (rows : List RowView) (places : List ℕ) → AreKept (nat_eq s) m rows places → ((q l : ℕ) → has (literals_at n q) l ≡ true → has (literals_at m q) l ≡ true) → HavePlaces n places → ((l : ℕ) → HasRoom n l (count_at rows l)) → AreKept nobody n rows places
   kept_less rows places k within keeps rooms = record {
     stored = b.stored_less;
-    listed = listed_same (IsHere (nat_eq s) m) (IsHere nobody n) rows places here_to here_from k.listed;
+    listed = listed_same (IsHere (nat_eq s) m) (IsHere nobody n) (watch_places m) (watch_places n) rows places here_to here_from (λ t p l h. watching-tied n t p l b.stored_less h.0) k.listed;
     blockers = λ l i lt. let h = k.listed.back l i lt in subst (λ ls. has ls (entry_at (watches_at rows l) i).blocker ≡ true) (sym (lits_less (entry_at (watches_at rows l) i).slot h.1 h.0.slot)) (k.blockers l i lt);
     reserved = λ q l h. k.reserved q l (within q l h);
     fits = λ q t e. k.fits q t (slot_more q t e);
@@ -156,7 +160,7 @@ module _ (m n : Store) (id s : ℕ) (b : Beside m n id s) where
   pub kept_more : (rows : List RowView) (places : List ℕ) → AreKept nobody n rows places → ((q l : ℕ) → has (literals_at m q) l ≡ true → l < length rows) → node_at s 1 < length places → HavePlaces m places → ((l : ℕ) → HasRoom m l (count_at rows l)) → AreKept (nat_eq s) m rows places
   kept_more rows places k within fits keeps rooms = record {
     stored = b.stored;
-    listed = listed_same (IsHere nobody n) (IsHere (nat_eq s) m) rows places here_from here_to k.listed;
+    listed = listed_same (IsHere nobody n) (IsHere (nat_eq s) m) (watch_places n) (watch_places m) rows places here_from here_to (λ t p l h. watching-tied m t p l b.stored h.0) k.listed;
     blockers = λ l i lt. let h = here_from _ _ l (k.listed.back l i lt) in subst (λ ls. has ls (entry_at (watches_at rows l) i).blocker ≡ true) (lits_less (entry_at (watches_at rows l) i).slot h.1 h.0.slot) (k.blockers l i lt);
     reserved = within;
     fits = λ q t e. elim (cases_Bool (nat_eq id q)) [

@@ -8,9 +8,9 @@ use Rattle.std.proofs.lemmas.Option.{same_Some}
 use Rattle.std.proofs.lemmas.Bool.{both_ways, cases_eq}
 use Rattle.lits.specs.Clause.{has}
 use Rattle.clause_store.specs.Clauses.{Store, IsOnce, IsStore, slot_at, kept_at, is_held, clause_at, with_place, swapped, lits_at, literals_at, with_swap}
-use Rattle.watch_lists.specs.Watch.{WatchView, no_watch, node_at, node_of}
+use Rattle.watch_lists.specs.Watch.{WatchView, no_watch, node_at}
 use Rattle.watch_lists.specs.Watched.{entry_at}
-use Rattle.watch_lists.specs.Lists.{RowView, no_row, row_at, watches_at, count_at, with_watches, IsCut, IsRowChanged, put_places, cut_places, id_at, lits_of, IsWatching, IsHere, nobody, AreListed, AreBlockers, AreKept, CanMove}
+use Rattle.watch_lists.specs.Lists.{RowView, no_row, row_at, watches_at, count_at, with_watches, IsCut, IsRowChanged, put_places, cut_places, last_in, id_at, lits_of, watch_places, IsWatching, IsHere, nobody, AreListed, AreBlockers, AreKept, IsPlaced, CanMove}
 use Rattle.watch_lists.proofs.Members.{has-place, differs}
 use Rattle.watch_lists.proofs.Placed.{id_at-slot, id_at-is, store-swapped, lits-literals}
 use Rattle.watch_lists.proofs.Putting.{places-put, slot-of-clause, held-active}
@@ -18,7 +18,7 @@ use Rattle.watch_lists.proofs.FirstTwo.{once-lits}
 use Rattle.watch_lists.proofs.Swapping.{swap-slot, swap-lits, swap-literals, at-first, at-third}
 use Rattle.watch_lists.proofs.Listing.{Cuts, Puts, EachEntry, listed_same, listed_cut, listed_put, entries_cut, entries_put, cuts_count, puts_count, puts_others, puts_long}
 use Rattle.watch_lists.proofs.Rooms.{room_left, room_enough}
-use Rattle.watch_lists.proofs.Watching.{watching-one, watching-has, literal-has, watching-fits, put-long, cut-long, room-same}
+use Rattle.watch_lists.proofs.Watching.{watching-one, watching-has, watching-tied, literal-has, watching-fits, put-long, cut-long, room-same}
 
 -- ---- Lists
 
@@ -134,8 +134,8 @@ module _ (m n : Store) (s p k : ℕ) (x : Exchanges m n s p k) where
 pub entry-read : (m : Store) (rows : List RowView) (places : List ℕ) (l i k : ℕ) → CanMove m rows places l i k → (code : ℕ) (row : RowView) (es : List WatchView) (e : WatchView) → code ≡ l → row ≡ get_or rows code row → es ≡ row.watches → e ≡ get_or es i e
     → e ≡ entry_at (watches_at rows l) i
 entry-read m rows places l i k can code row es e code_is row_is es_are e_is =
-    let w : IsWatching m (entry_at (watches_at rows l) i).slot (entry_at (watches_at rows l) i).place l = (can.kept.listed.back l i can.within).0 in
-    let reserved : l < length rows = can.kept.reserved (id_at m (entry_at (watches_at rows l) i).slot) l (literal-has m (entry_at (watches_at rows l) i).slot l can.kept.stored w.slot (watching-has m (entry_at (watches_at rows l) i).slot (entry_at (watches_at rows l) i).place l w)) in
+    let w : IsWatching m (entry_at (watches_at rows l) i).slot (watch_places m (entry_at (watches_at rows l) i).slot l) l = (can.kept.listed.back l i can.within).0 in
+    let reserved : l < length rows = can.kept.reserved (id_at m (entry_at (watches_at rows l) i).slot) l (literal-has m (entry_at (watches_at rows l) i).slot l can.kept.stored w.slot (watching-has m (entry_at (watches_at rows l) i).slot (watch_places m (entry_at (watches_at rows l) i).slot l) l w)) in
     let here : row ≡ row_at rows l = get_or_read rows l row reserved (subst (λ z. row ≡ get_or rows z row) code_is row_is) no_row in
     let list : es ≡ watches_at rows l = es_are ∙ ap (λ z. z.watches) here in
     get_or_read (watches_at rows l) i e can.within (subst (λ z. e ≡ get_or z i e) list e_is) no_watch
@@ -143,12 +143,19 @@ entry-read m rows places l i k can code row es e code_is row_is es_are e_is =
 pub few : (m : Store) (rows : List RowView) (places : List ℕ) (l i k : ℕ) → CanMove m rows places l i k → length (watches_at rows l) ≤ count_at rows l
 few m rows places l i k can = room_enough (IsHere nobody m) m rows places l can.kept.stored can.kept.listed (λ t q a h. h.0) (can.kept.rooms l)
 
-module _ (m : Store) (rows : List RowView) (places : List ℕ) (l i k : ℕ) (can : CanMove m rows places l i k) (s p : ℕ) (s_is : s ≡ (entry_at (watches_at rows l) i).slot) (p_is : p ≡ (entry_at (watches_at rows l) i).place) where
+-- the last entry of its list
+pub last-placed : (m : Store) (rows : List RowView) (places : List ℕ) (l i k : ℕ) → CanMove m rows places l i k → IsPlaced m places (last_in (watches_at rows l)).slot l (length (watches_at rows l) - 1)
+last-placed m rows places l i k can =
+    let within : i < length (watches_at rows l) = can.within in
+    let w = (can.kept.listed.back l (length (watches_at rows l) - 1) (omega arith)).0 in
+    record { slot = w.slot; long = w.long; fits = can.kept.fits (id_at m (last_in (watches_at rows l)).slot) (last_in (watches_at rows l)).slot w.slot; here = can.kept.listed.placed l (length (watches_at rows l) - 1) (omega arith) }
+
+module _ (m : Store) (rows : List RowView) (places : List ℕ) (l i k : ℕ) (can : CanMove m rows places l i k) (s p : ℕ) (s_is : s ≡ (entry_at (watches_at rows l) i).slot) (p_is : p ≡ watch_places m s l) where
   kept : AreKept nobody m rows places
   kept = can.kept
 
   watching : IsWatching m s p l
-  watching = subst (λ z. IsWatching m z p l) (sym s_is) (subst (λ z. IsWatching m (entry_at (watches_at rows l) i).slot z l) (sym p_is) (kept.listed.back l i can.within).0)
+  watching = subst (λ z. IsWatching m s z l) (sym p_is) (subst (λ z. IsWatching m z (watch_places m z l) l) (sym s_is) (kept.listed.back l i can.within).0)
 
   in_bounds : k < length (lits_of m s)
   in_bounds = subst (λ z. k < length (lits_of m z)) (sym s_is) can.in_bounds
@@ -166,6 +173,9 @@ module _ (m : Store) (rows : List RowView) (places : List ℕ) (l i k : ℕ) (ca
   pub slot-known : slot_at m (id_at m s) ≡ Some s
   slot-known = watching.slot
 
+  pub long-known : 2 ≤ length (lits_of m s)
+  long-known = watching.long
+
   pub within-other : (q : ℕ) → slot_at m q ≡ Some s → 1 - p < length (lits_at m q)
   within-other = within-each (1 - p) (let a = later in let b = in_bounds in omega arith)
 
@@ -178,19 +188,19 @@ module _ (m : Store) (rows : List RowView) (places : List ℕ) (l i k : ℕ) (ca
   once : IsOnce (lits_of m s)
   once = once-lits m (id_at m s) s kept.stored watching.slot
 
-  module _ (joined : ℕ) (joined_is : joined ≡ slice_index (lits_of m s) k) (rows1 : List RowView) (places1 : List ℕ) (list1 : IsCut (watches_at rows l) (watches_at rows1 l) i) (row1 : IsRowChanged l rows rows1) (places1_are : places1 ≡ cut_places places (watches_at rows l) i) where
-    cuts : Cuts rows rows1 s p l i
-    cuts = record { within = can.within; slot = sym s_is; place = sym p_is; row = row1; cut = list1 }
+  module _ (joined : ℕ) (joined_is : joined ≡ slice_index (lits_of m s) k) (rows1 : List RowView) (places1 : List ℕ) (list1 : IsCut (watches_at rows l) (watches_at rows1 l) i) (row1 : IsRowChanged l rows rows1) (places1_are : places1 ≡ cut_places places (watches_at rows l) (watch_places m (last_in (watches_at rows l)).slot l) i) where
+    cuts : Cuts rows rows1 s l i
+    cuts = record { within = can.within; slot = sym s_is; row = row1; cut = list1 }
 
     Here1 : ℕ → ℕ → ℕ → Type 0
     Here1 t q a = IsHere nobody m t q a × (t ≡ s → q ≡ p → ⊥)
 
     long1 : length places1 ≡ length places
-    long1 = ap length places1_are ∙ cut-long places (watches_at rows l) i
+    long1 = ap length places1_are ∙ cut-long places (watches_at rows l) (watch_places m (last_in (watches_at rows l)).slot l) i
 
-    listed1 : AreListed Here1 rows1 places1
+    listed1 : AreListed Here1 (watch_places m) rows1 places1
     unfolding Here1
-    listed1 = subst (AreListed Here1 rows1) (sym places1_are) (listed_cut (IsHere nobody m) rows rows1 places s p l i (λ t q a b h g. watching-one m t q a b h.0 g.0) (λ t q a h. watching-fits m places kept.fits t q a h.0) kept.listed cuts)
+    listed1 = subst (AreListed Here1 (watch_places m) rows1) (sym places1_are) (listed_cut (IsHere nobody m) (watch_places m) rows rows1 places s p l i (λ t q a b h g. watching-one m t q a b h.0 g.0) (λ t q a h. watching-fits m places kept.fits t q a h.0) kept.listed cuts (sym p_is))
 
     watching1 : (t q a : ℕ) → Here1 t q a → IsWatching m t q a
     unfolding Here1
@@ -209,12 +219,12 @@ module _ (m : Store) (rows : List RowView) (places : List ℕ) (l i k : ℕ) (ca
     pub room-joined : length (watches_at rows1 joined) < count_at rows1 joined
     room-joined = room_left Here1 m rows1 places1 s joined kept.stored listed1 watching1 (λ q h. apart q joined (watching1 s q joined h) refl) watching.slot has-joined (room-same m m joined _ _ (λ q. refl) (cuts_count l rows rows1 row1 joined) (kept.rooms joined))
 
-    module _ (e : WatchView) (other : ℕ) (other_is : other ≡ slice_index (lits_of m s) (1 - p)) (e_slot : e.slot ≡ s) (e_place : e.place ≡ p) (e_blocker : e.blocker ≡ other) where
-      pub fits-moved : node_of e < length places1
-      fits-moved = subst (λ z. node_of e < z) (sym long1) (subst (λ z. node_at z e.place < length places) (sym e_slot) (subst (λ z. node_at s z < length places) (sym e_place) (watching-fits m places kept.fits s p l watching)))
+    module _ (e : WatchView) (other : ℕ) (other_is : other ≡ slice_index (lits_of m s) (1 - p)) (e_slot : e.slot ≡ s) (e_blocker : e.blocker ≡ other) where
+      pub fits-moved : node_at e.slot p < length places1
+      fits-moved = subst (λ z. node_at e.slot p < z) (sym long1) (subst (λ z. node_at z p < length places) (sym e_slot) (watching-fits m places kept.fits s p l watching))
 
       module _ (n : Store) (n_is : n ≡ with_swap m (id_at m s) p k) (rows2 : List RowView) (places2 : List ℕ)
-          (rows2_are : rows2 ≡ slice_set rows1 joined (with_watches (row_at rows1 joined) (watches_at rows1 joined ++ e ∷ []))) (places2_are : places2 ≡ put_places places1 (watches_at rows1 joined) e) where
+          (rows2_are : rows2 ≡ slice_set rows1 joined (with_watches (row_at rows1 joined) (watches_at rows1 joined ++ e ∷ []))) (places2_are : places2 ≡ put_places places1 (watches_at rows1 joined) e.slot p) where
         exchange : Exchanges m n s p k
         exchange = record { stored = kept.stored; slot = watching.slot; low = low; later = later; in_bounds = in_bounds; is = n_is }
 
@@ -222,27 +232,38 @@ module _ (m : Store) (rows : List RowView) (places : List ℕ) (l i k : ℕ) (ca
         puts = record { reserved = reserved-joined; is = rows2_are }
 
         Here2 : ℕ → ℕ → ℕ → Type 0
-        Here2 t q a = Here1 t q a ⊎ ((t ≡ e.slot) × (q ≡ e.place) × (a ≡ joined))
+        Here2 t q a = Here1 t q a ⊎ ((t ≡ e.slot) × (q ≡ p) × (a ≡ joined))
 
         long2 : length places2 ≡ length places
-        long2 = ap length places2_are ∙ put-long places1 (watches_at rows1 joined) e ∙ long1
+        long2 = ap length places2_are ∙ put-long places1 (watches_at rows1 joined) e.slot p ∙ long1
 
-        absent : (a : ℕ) → Here1 e.slot e.place a → ⊥
+        stored : IsStore n
+        stored = exchanged-stored m n s p k exchange
+
+        absent : (a : ℕ) → Here1 e.slot p a → ⊥
         unfolding Here1
-        absent a h = h.1 e_slot e_place
+        absent a h = h.1 e_slot refl
 
-        listed2 : AreListed Here2 rows2 places2
-        unfolding Here2
-        listed2 = subst (AreListed Here2 rows2) (sym places2_are) (listed_put Here1 rows1 rows2 places1 joined e listed1 absent (let b = low in omega arith) fits-moved puts)
+        -- the other entries have the same places in the new order
+        listed1-after : AreListed Here1 (watch_places n) rows1 places1
+        unfolding Here1
+        listed1-after = listed_same Here1 Here1 (watch_places m) (watch_places n) rows1 places1 (λ t q a h. h) (λ t q a h. h) (λ t q a h. watching-tied n t q a stored (watching-after m n s p k exchange t q a h.0.0 h.1)) listed1
 
         moved : IsWatching n s p joined
         moved = subst (IsWatching n s p) (sym joined_is) (watching-moved m n s p k exchange)
+
+        tied-moved : watch_places n e.slot joined ≡ p
+        tied-moved = watching-tied n e.slot p joined stored (subst (λ z. IsWatching n z p joined) (sym e_slot) moved)
+
+        listed2 : AreListed Here2 (watch_places n) rows2 places2
+        unfolding Here2
+        listed2 = subst (AreListed Here2 (watch_places n) rows2) (sym places2_are) (listed_put Here1 (watch_places n) rows1 rows2 places1 joined p e listed1-after absent low fits-moved tied-moved puts)
 
         to : (t q a : ℕ) → Here2 t q a → IsHere nobody n t q a
         unfolding Here2 Here1
         to t q a h = elim h [
           | inl x ↦ (watching-after m n s p k exchange t q a x.0.0 x.1, refl)
-          | inr x ↦ (subst (λ z. IsWatching n z q a) (sym (x.0 ∙ e_slot)) (subst (λ z. IsWatching n s z a) (sym (x.1 ∙ e_place)) (subst (IsWatching n s p) (sym x.2) moved)), refl)
+          | inr x ↦ (subst (λ z. IsWatching n z q a) (sym (x.0 ∙ e_slot)) (subst (λ z. IsWatching n s z a) (sym x.1) (subst (IsWatching n s p) (sym x.2) moved)), refl)
         ]
 
         stays : (t q a : ℕ) → IsWatching n t q a → (t ≡ s → q ≡ p → ⊥) → Here2 t q a
@@ -253,14 +274,14 @@ module _ (m : Store) (rows : List RowView) (places : List ℕ) (l i k : ℕ) (ca
         unfolding Here2
         from t q a h = elim (cases_eq t s) [
           | inl b ↦ elim (cases_eq q p) [
-            | inl d ↦ inr (b ∙ sym e_slot, d ∙ sym e_place, watching-one n s p a joined (subst (λ z. IsWatching n z p a) b (subst (λ z. IsWatching n t z a) d h.0)) moved)
+            | inl d ↦ inr (b ∙ sym e_slot, d, watching-one n s p a joined (subst (λ z. IsWatching n z p a) b (subst (λ z. IsWatching n t z a) d h.0)) moved)
             | inr ne ↦ stays t q a h.0 (λ _. ne)
           ]
           | inr ne ↦ stays t q a h.0 (λ b _. ne b)
         ]
 
-        listed3 : AreListed (IsHere nobody n) rows2 places2
-        listed3 = listed_same Here2 (IsHere nobody n) rows2 places2 to from listed2
+        listed3 : AreListed (IsHere nobody n) (watch_places n) rows2 places2
+        listed3 = listed_same Here2 (IsHere nobody n) (watch_places n) (watch_places n) rows2 places2 to from (λ t q a h. watching-tied n t q a stored h.0) listed2
 
         Fits : ℕ → WatchView → Type 0
         Fits a g = has (lits_of m g.slot) g.blocker ≡ true
@@ -271,7 +292,7 @@ module _ (m : Store) (rows : List RowView) (places : List ℕ) (l i k : ℕ) (ca
 
         each2 : EachEntry Fits rows2
         unfolding Fits
-        each2 = entries_put Fits rows1 rows2 joined e puts has-other (entries_cut Fits rows rows1 s p l i cuts kept.blockers)
+        each2 = entries_put Fits rows1 rows2 joined e puts has-other (entries_cut Fits rows rows1 s l i cuts kept.blockers)
 
         blockers2 : AreBlockers n rows2
         unfolding Fits
@@ -279,7 +300,7 @@ module _ (m : Store) (rows : List RowView) (places : List ℕ) (l i k : ℕ) (ca
 
         pub moved-kept : AreKept nobody n rows2 places2
         moved-kept = record {
-          stored = exchanged-stored m n s p k exchange;
+          stored = stored;
           listed = listed3;
           blockers = blockers2;
           reserved = λ q a h. subst (λ z. a < z) (sym (puts_long rows1 rows2 joined e puts ∙ row1.long)) (kept.reserved q a (ap (λ z. has z a) (sym (exchanged-literals m n s p k exchange q)) ∙ h));

@@ -36,9 +36,10 @@ kept_empty = record {
   stored = empty-store;
   listed = record {
     here = λ s p l h. absurd (empty-slot _ s h.0.slot);
+    tied = λ s p l h. absurd (empty-slot _ s h.0.slot);
     back = λ l i lt. absurd (omega arith);
     placed = λ l i lt. absurd (omega arith);
-    low = λ l i lt. absurd (omega arith);
+    low = λ s p l h. h.0.low;
   };
   blockers = λ l i lt. absurd (omega arith);
   reserved = λ q l h. absurd (empty-literals q l h);

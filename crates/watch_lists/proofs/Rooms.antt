@@ -1,7 +1,6 @@
 -- A list has room for one entry more of each clause that has its literal and isn't in it.
-use Rattle.std.proofs.Common.{◌≡◌, ◌≢◌, ℕ, suc, zero, ◌<◌, ◌≤◌, List, [], ◌∷◌, length, Some, true, refl, sym, ap, ◌∙◌, subst, inl, inr, arith, eq-eqb}
-use Rattle.std.specs.Prelude.{slice_index}
-use Rattle.std.proofs.lemmas.Bool.{both_ways, false_from_ne_true}
+use Rattle.std.proofs.Common.{◌≡◌, ◌≢◌, ℕ, suc, zero, ◌<◌, ◌≤◌, List, [], ◌∷◌, length, Some, true, refl, sym, ap, ◌∙◌, subst, inl, inr, arith}
+use Rattle.std.proofs.lemmas.Bool.{false_from_ne_true}
 use Rattle.std.proofs.lemmas.Option.{same_Some}
 use Rattle.lits.specs.Clause.{has}
 use Rattle.clause_store.specs.Clauses.{Store, IsOnce, IsStore, slot_at}
@@ -10,7 +9,6 @@ use Rattle.watch_lists.specs.Watched.{entry_at}
 use Rattle.watch_lists.specs.Lists.{RowView, watches_at, count_at, id_at, lits_of, place_in, IsWatching, AreListed, HasRoom}
 use Rattle.watch_lists.proofs.Members.{member_cases, has-place}
 use Rattle.watch_lists.proofs.Placed.{lits-literals}
-use Rattle.watch_lists.proofs.FirstTwo.{firsts-apart, once-lits}
 
 -- ---- Different members
 
@@ -59,22 +57,8 @@ pigeons-more n x f hs member apart here other =
 
 -- ---- Entries of a list
 
--- a literal of the first two stands at one place
-one_place : (ls : List ℕ) (p q l : ℕ) → IsOnce ls → 2 ≤ length ls → p ≤ 1 → q ≤ 1 → slice_index ls p ≡ l → slice_index ls q ≡ l → p ≡ q
-one_place ls zero zero l o big low low2 e f = refl
-one_place ls zero (suc q) l o big low low2 e f =
-    let n : q ≡ 0 = omega arith in
-    absurd (both_ways _ (firsts-apart ls o big) (eq-eqb _ _ (sym (ap (λ z. slice_index ls (suc z)) n) ∙ f ∙ sym e)))
-one_place ls (suc p) zero l o big low low2 e f =
-    let n : p ≡ 0 = omega arith in
-    absurd (both_ways _ (firsts-apart ls o big) (eq-eqb _ _ (sym (ap (λ z. slice_index ls (suc z)) n) ∙ e ∙ sym f)))
-one_place ls (suc p) (suc q) l o big low low2 e f = omega arith
-
 pub watching-slot : (m : Store) (s t p q l k : ℕ) → IsWatching m s p l → IsWatching m t q k → id_at m s ≡ id_at m t → s ≡ t
 watching-slot m s t p q l k w v e = same_Some s t (sym w.slot ∙ ap (slot_at m) e ∙ v.slot)
-
-pub watching-place : (m : Store) (s p q l : ℕ) → IsStore m → IsWatching m s p l → IsWatching m s q l → p ≡ q
-watching-place m s p q l st w v = one_place (lits_of m s) p q l (once-lits m (id_at m s) s st w.slot) w.long w.low v.low w.lit v.lit
 
 pub watching-has : (m : Store) (s p l : ℕ) → IsWatching m s p l → has (lits_of m s) l ≡ true
 watching-has m s p l w =
@@ -86,7 +70,7 @@ watching-has m s p l w =
 entry-id : List RowView → Store → ℕ → ℕ → ℕ
 entry-id rows m l i = id_at m (entry_at (watches_at rows l) i).slot
 
-entries-in : (R : ℕ → ℕ → ℕ → Type 0) (m : Store) (rows : List RowView) (places : List ℕ) (l : ℕ) → IsStore m → AreListed R rows places → ((t q k : ℕ) → R t q k → IsWatching m t q k) → (room : HasRoom m l (count_at rows l))
+entries-in : {f : ℕ → ℕ → ℕ} (R : ℕ → ℕ → ℕ → Type 0) (m : Store) (rows : List RowView) (places : List ℕ) (l : ℕ) → IsStore m → AreListed R f rows places → ((t q k : ℕ) → R t q k → IsWatching m t q k) → (room : HasRoom m l (count_at rows l))
     → (i : ℕ) → i < length (watches_at rows l) → has room.ids (entry-id rows m l i) ≡ true
 unfolding entry-id
 entries-in R m rows places l st k watching room i lt =
@@ -94,32 +78,28 @@ entries-in R m rows places l st k watching room i lt =
     room.each _ (sym (lits-literals m _ _ l st w.slot) ∙ watching-has m _ _ l w)
 
 -- a slot stands in a list once
-pub slots-apart : (R : ℕ → ℕ → ℕ → Type 0) (m : Store) (rows : List RowView) (places : List ℕ) (l : ℕ) → IsStore m → AreListed R rows places → ((t q k : ℕ) → R t q k → IsWatching m t q k)
+pub slots-apart : {f : ℕ → ℕ → ℕ} (R : ℕ → ℕ → ℕ → Type 0) (rows : List RowView) (places : List ℕ) (l : ℕ) → AreListed R f rows places
     → (i j : ℕ) → i < length (watches_at rows l) → j < length (watches_at rows l) → (entry_at (watches_at rows l) i).slot ≡ (entry_at (watches_at rows l) j).slot → i ≡ j
-slots-apart R m rows places l st k watching i j lt lt2 slot =
-    let w = watching _ _ l (k.back l i lt) in
-    let v = watching _ _ l (k.back l j lt2) in
-    let place = watching-place m (entry_at (watches_at rows l) j).slot (entry_at (watches_at rows l) i).place (entry_at (watches_at rows l) j).place l st (subst (λ z. IsWatching m z (entry_at (watches_at rows l) i).place l) slot w) v in
-    sym (k.placed l i lt) ∙ ap (λ z. place_in places z (entry_at (watches_at rows l) i).place) slot ∙ ap (place_in places (entry_at (watches_at rows l) j).slot) place ∙ k.placed l j lt2
+slots-apart {f} R rows places l k i j lt lt2 slot = sym (k.placed l i lt) ∙ ap (λ z. place_in places z (f z l)) slot ∙ k.placed l j lt2
 
-entries-apart : (R : ℕ → ℕ → ℕ → Type 0) (m : Store) (rows : List RowView) (places : List ℕ) (l : ℕ) → IsStore m → AreListed R rows places → ((t q k : ℕ) → R t q k → IsWatching m t q k)
+entries-apart : {f : ℕ → ℕ → ℕ} (R : ℕ → ℕ → ℕ → Type 0) (m : Store) (rows : List RowView) (places : List ℕ) (l : ℕ) → IsStore m → AreListed R f rows places → ((t q k : ℕ) → R t q k → IsWatching m t q k)
     → (i j : ℕ) → i < length (watches_at rows l) → j < length (watches_at rows l) → entry-id rows m l i ≡ entry-id rows m l j → i ≡ j
 unfolding entry-id
 entries-apart R m rows places l st k watching i j lt lt2 e =
-    slots-apart R m rows places l st k watching i j lt lt2 (watching-slot m _ _ _ _ l l (watching _ _ l (k.back l i lt)) (watching _ _ l (k.back l j lt2)) e)
+    slots-apart R rows places l k i j lt lt2 (watching-slot m _ _ _ _ l l (watching _ _ l (k.back l i lt)) (watching _ _ l (k.back l j lt2)) e)
 
-pub room_left : (R : ℕ → ℕ → ℕ → Type 0) (m : Store) (rows : List RowView) (places : List ℕ) (s l : ℕ) → IsStore m → AreListed R rows places → ((t q k : ℕ) → R t q k → IsWatching m t q k) → ((q : ℕ) → R s q l → ⊥)
+pub room_left : {f : ℕ → ℕ → ℕ} (R : ℕ → ℕ → ℕ → Type 0) (m : Store) (rows : List RowView) (places : List ℕ) (s l : ℕ) → IsStore m → AreListed R f rows places → ((t q k : ℕ) → R t q k → IsWatching m t q k) → ((q : ℕ) → R s q l → ⊥)
     → slot_at m (id_at m s) ≡ Some s → has (lits_of m s) l ≡ true → HasRoom m l (count_at rows l) → length (watches_at rows l) < count_at rows l
 unfolding entry-id
-room_left R m rows places s l st k watching absent slot member room =
+room_left {f} R m rows places s l st k watching absent slot member room =
     let lt = pigeons-more (length (watches_at rows l)) (id_at m s) (entry-id rows m l) room.ids (entries-in R m rows places l st k watching room) (entries-apart R m rows places l st k watching)
     (room.each _ (sym (lits-literals m _ s l st slot) ∙ member))
     (λ i lt e. let w = watching _ _ l (k.back l i lt) in
-    absurd (absent (entry_at (watches_at rows l) i).place (subst (λ z. R z (entry_at (watches_at rows l) i).place l) (same_Some _ _ (sym w.slot ∙ ap (slot_at m) e ∙ slot)) (k.back l i lt)))) in
+    absurd (absent (f (entry_at (watches_at rows l) i).slot l) (subst (λ z. R z (f (entry_at (watches_at rows l) i).slot l) l) (same_Some _ _ (sym w.slot ∙ ap (slot_at m) e ∙ slot)) (k.back l i lt)))) in
     let few = room.few in
     omega arith
 
-pub room_enough : (R : ℕ → ℕ → ℕ → Type 0) (m : Store) (rows : List RowView) (places : List ℕ) (l : ℕ) → IsStore m → AreListed R rows places → ((t q k : ℕ) → R t q k → IsWatching m t q k) → HasRoom m l (count_at rows l) → length (watches_at rows l) ≤ count_at rows l
+pub room_enough : {f : ℕ → ℕ → ℕ} (R : ℕ → ℕ → ℕ → Type 0) (m : Store) (rows : List RowView) (places : List ℕ) (l : ℕ) → IsStore m → AreListed R f rows places → ((t q k : ℕ) → R t q k → IsWatching m t q k) → HasRoom m l (count_at rows l) → length (watches_at rows l) ≤ count_at rows l
 room_enough R m rows places l st k watching room =
     let le = pigeons (length (watches_at rows l)) (entry-id rows m l) room.ids (entries-in R m rows places l st k watching room) (entries-apart R m rows places l st k watching) in
     let few = room.few in

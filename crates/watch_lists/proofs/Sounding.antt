@@ -8,7 +8,7 @@ use Rattle.lits.specs.Clause.{has}
 use Rattle.clause_store.specs.Clauses.{Store, IsOnce, slot_at, lits_at}
 use Rattle.watch_lists.specs.Watch.{WatchView}
 use Rattle.watch_lists.specs.Watched.{IsWatch, IsWatched, list_at, entry_at, slots_in, is_watch}
-use Rattle.watch_lists.specs.Lists.{RowView, AreKept, IsWatching, nobody, seen, watches_at, no_row, place_in, id_at, lits_of}
+use Rattle.watch_lists.specs.Lists.{RowView, AreKept, IsWatching, nobody, seen, watches_at, no_row, place_in, id_at, lits_of, watch_places}
 use Rattle.watch_lists.proofs.Members.{has-here, has-there, member_cases}
 use Rattle.watch_lists.proofs.Placed.{id_at-slot, id_at-is}
 use Rattle.watch_lists.proofs.FirstTwo.{first_watch, second_watch, watch_cases}
@@ -69,7 +69,7 @@ long-watch : (ls : List ℕ) (l : ℕ) → is_watch ls l ≡ true → 2 ≤ leng
 long-watch ls l h = leb-true 2 (length ls) (and_parts _ _ h).0
 
 -- an entry of a list is that of a clause
-entry-slot : (m : Store) (rows : List RowView) (places : List ℕ) → AreKept nobody m rows places → (l i : ℕ) → i < length (watches_at rows l) → IsWatching m (entry_at (watches_at rows l) i).slot (entry_at (watches_at rows l) i).place l
+entry-slot : (m : Store) (rows : List RowView) (places : List ℕ) → AreKept nobody m rows places → (l i : ℕ) → i < length (watches_at rows l) → IsWatching m (entry_at (watches_at rows l) i).slot (watch_places m (entry_at (watches_at rows l) i).slot l) l
 entry-slot m rows places k l i lt = (k.listed.back l i lt).0
 
 kept-watches : (m : Store) (rows : List RowView) (places : List ℕ) → AreKept nobody m rows places → (id s l : ℕ) → slot_at m id ≡ Some s → has (slots_in (watches_at rows l)) s ≡ is_watch (lits_at m id) l
@@ -81,8 +81,8 @@ kept-watches m rows places k id s l e = both-true _ _ to from
     to : has (slots_in (watches_at rows l)) s ≡ true → is_watch (lits_at m id) l ≡ true
     to h =
         let r = slot-place (watches_at rows l) s h in
-        let w : IsWatching m s (entry_at (watches_at rows l) r.at).place l = subst (λ z. IsWatching m z (entry_at (watches_at rows l) r.at).place l) r.slot (entry-slot m rows places k l r.at r.within) in
-        subst (λ z. is_watch (lits_at m z) l ≡ true) here (watching-watch m s (entry_at (watches_at rows l) r.at).place l w)
+        let w : IsWatching m s (watch_places m s l) l = subst (λ z. IsWatching m z (watch_places m z l) l) r.slot (entry-slot m rows places k l r.at r.within) in
+        subst (λ z. is_watch (lits_at m z) l ≡ true) here (watching-watch m s (watch_places m s l) l w)
 
     stands : (p : ℕ) → p ≤ 1 → 2 ≤ length (lits_of m s) → slice_index (lits_of m s) p ≡ l → has (slots_in (watches_at rows l)) s ≡ true
     stands p low big f =
@@ -102,13 +102,13 @@ kept-entries : (m : Store) (rows : List RowView) (places : List ℕ) → AreKept
 kept-entries m rows places k id l i lt e =
     let w = entry-slot m rows places k l i lt in
     subst (λ z. IsWatch (lits_at m z) l (entry_at (watches_at rows l) i)) (id_at-is m id (entry_at (watches_at rows l) i).slot k.stored e)
-    (record { long = w.long; low = w.low; lit = w.lit; blocker = k.blockers l i lt })
+    (record { long = w.long; lit = w.lit; blocker = k.blockers l i lt })
 
 pub kept_sound : (m : Store) (rows : List RowView) (places : List ℕ) → AreKept nobody m rows places → IsWatched (seen m rows)
 kept_sound m rows places k = record {
   store = k.stored;
   reserved = λ id l h. subst (λ z. l < z) (sym (seen_wide rows)) (k.reserved id l h);
-  once = λ l. subst (λ es. IsOnce (slots_in es)) (sym (seen_list rows l)) (once-slots (watches_at rows l) (slots-apart _ m rows places l k.stored k.listed (λ t q n h. h.0)));
+  once = λ l. subst (λ es. IsOnce (slots_in es)) (sym (seen_list rows l)) (once-slots (watches_at rows l) (slots-apart _ rows places l k.listed));
   watches = λ id s l e. subst (λ es. has (slots_in es) s ≡ is_watch (lits_at m id) l) (sym (seen_list rows l)) (kept-watches m rows places k id s l e);
   slots = λ l s h.
       let r = slot-place (watches_at rows l) s (subst (λ es. has (slots_in es) s ≡ true) (seen_list rows l) h) in

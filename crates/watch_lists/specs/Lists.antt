@@ -5,8 +5,8 @@ use Rattle.std.specs.FinMap.{keys}
 use Rattle.lits.specs.Clause.{has}
 use Rattle.clause_store.specs.Clauses.{Store, slot_at, kept_at, is_held, lits_at, literals_at, IsStore}
 use Rattle.watch_lists.specs.declared.lists.Sides.{Sides}
-use Rattle.watch_lists.specs.Watch.{WatchView, watch_code, node_at, node_of}
-use Rattle.watch_lists.specs.Watched.{Watched, entry_at}
+use Rattle.watch_lists.specs.Watch.{WatchView, watch_code, node_at}
+use Rattle.watch_lists.specs.Watched.{Watched, entry_at, watch_place}
 
 -- ---- Rows
 
@@ -53,13 +53,17 @@ pub record IsRowChanged (l : ℕ) (old new : List RowView) : Type 0 where
   pub others : (k : ℕ) → k ≢ l → row_at new k ≡ row_at old k
   pub count : count_at new l ≡ count_at old l
 
--- the places, where an entry is put at a list's end
-abbrev pub put_places : List ℕ → List WatchView → WatchView → List ℕ
-put_places places es e = slice_set places (node_of e) (length es)
+-- the places, where the entry of a slot and a place is put at a list's end
+abbrev pub put_places : List ℕ → List WatchView → ℕ → ℕ → List ℕ
+put_places places es s p = slice_set places (node_at s p) (length es)
 
--- the places, where an entry is taken out of a list and the last comes to its place
-abbrev pub cut_places : List ℕ → List WatchView → ℕ → List ℕ
-cut_places places es i = if nat_le (length es) (i + 1) then places else slice_set places (node_of (entry_at es (length es - 1))) i
+-- the last entry of a list
+abbrev pub last_in : List WatchView → WatchView
+last_in es = entry_at es (length es - 1)
+
+-- the places, where an entry is taken out of a list and the last, which is that of a place p, comes to its place
+abbrev pub cut_places : List ℕ → List WatchView → ℕ → ℕ → List ℕ
+cut_places places es p i = if nat_le (length es) (i + 1) then places else slice_set places (node_at (last_in es).slot p) i
 
 -- ---- The clause at a slot
 
@@ -80,6 +84,10 @@ id_at m s = id_among m s (keys m)
 -- the list of the active clause at a slot
 abbrev pub lits_of : Store → ℕ → List ℕ
 lits_of m s = lits_at m (id_at m s)
+
+-- at which of its first two places the clause at a slot has a literal that is one of them
+abbrev pub watch_places : Store → ℕ → ℕ → ℕ
+watch_places m s l = watch_place (lits_of m s) l
 
 -- the active clause at a slot watches the literal at this place of its list
 pub record IsWatching (m : Store) (s p l : ℕ) : Type 0 where
@@ -106,14 +114,15 @@ place_in places s p = slice_index places (node_at s p)
 pub record StandsIn (rows : List RowView) (places : List ℕ) (s p l : ℕ) : Type 0 where
   pub within : place_in places s p < length (watches_at rows l)
   pub slot : (entry_at (watches_at rows l) (place_in places s p)).slot ≡ s
-  pub place : (entry_at (watches_at rows l) (place_in places s p)).place ≡ p
 
--- the lists have the entries for which a relation of slots, places and literals holds, and no other, and the table says where
-pub record AreListed (R : ℕ → ℕ → ℕ → Type 0) (rows : List RowView) (places : List ℕ) : Type 0 where
+-- the lists have the entries for which a relation of slots, places and literals holds, and no other, and the table says where.
+-- The place is a function of the slot and the literal
+pub record AreListed (R : ℕ → ℕ → ℕ → Type 0) (f : ℕ → ℕ → ℕ) (rows : List RowView) (places : List ℕ) : Type 0 where
   pub here : (s p l : ℕ) → R s p l → StandsIn rows places s p l
-  pub back : (l i : ℕ) → i < length (watches_at rows l) → R (entry_at (watches_at rows l) i).slot (entry_at (watches_at rows l) i).place l
-  pub placed : (l i : ℕ) → i < length (watches_at rows l) → place_in places (entry_at (watches_at rows l) i).slot (entry_at (watches_at rows l) i).place ≡ i
-  pub low : (l i : ℕ) → i < length (watches_at rows l) → (entry_at (watches_at rows l) i).place ≤ 1
+  pub tied : (s p l : ℕ) → R s p l → f s l ≡ p
+  pub back : (l i : ℕ) → i < length (watches_at rows l) → R (entry_at (watches_at rows l) i).slot (f (entry_at (watches_at rows l) i).slot l) l
+  pub placed : (l i : ℕ) → i < length (watches_at rows l) → place_in places (entry_at (watches_at rows l) i).slot (f (entry_at (watches_at rows l) i).slot l) ≡ i
+  pub low : (s p l : ℕ) → R s p l → p ≤ 1
 
 -- each entry has a literal of its clause
 abbrev pub AreBlockers : Store → List RowView → Type 0
@@ -132,7 +141,7 @@ HavePlaces m places = (q : ℕ) → is_held m q ≡ true → node_at (kept_at m 
 -- the lists are those of the clauses whose slots aren't away
 pub record AreKept (away : ℕ → Bool) (m : Store) (rows : List RowView) (places : List ℕ) : Type 0 where
   pub stored : IsStore m
-  pub listed : AreListed (IsHere away m) rows places
+  pub listed : AreListed (IsHere away m) (watch_places m) rows places
   pub blockers : AreBlockers m rows
   pub reserved : (q l : ℕ) → has (literals_at m q) l ≡ true → l < length rows
   pub fits : (q s : ℕ) → slot_at m q ≡ Some s → node_at s 1 < length places
@@ -154,10 +163,23 @@ seen m rows = record { clauses = m; lists = map (λ r. r.watches) rows }
 abbrev pub sides_in : Store → List ℕ → ℕ → Option Sides
 sides_in m places s = if nat_le 2 (length (lits_of m s)) then Some (record { one = slice_index (lits_of m s) 0; one_at = place_in places s 0; two = slice_index (lits_of m s) 1; two_at = place_in places s 1 }) else None
 
--- these are the entries of a slot that can be taken out of its lists
-pub record CanPart (m : Store) (rows : List RowView) (places : List ℕ) (s : ℕ) (sides : Option Sides) : Type 0 where
+-- the clauses of watched slots are the same, but for one slot
+pub record AreBeside (m n : Store) (s : ℕ) : Type 0 where
+  pub slot : (t : ℕ) → nat_eq s t ≡ false → slot_at m (id_at m t) ≡ Some t → slot_at n (id_at n t) ≡ Some t
+  pub lits : (t : ℕ) → nat_eq s t ≡ false → slot_at m (id_at m t) ≡ Some t → lits_of n t ≡ lits_of m t
+
+-- a slot is that of a clause of two literals or more, and its entry for a literal stands at this place of the literal's list
+pub record IsPlaced (m : Store) (places : List ℕ) (s l at : ℕ) : Type 0 where
+  pub slot : slot_at m (id_at m s) ≡ Some s
+  pub long : 2 ≤ length (lits_of m s)
+  pub fits : node_at s 1 < length places
+  pub here : place_in places s (watch_places m s l) ≡ at
+
+-- these are the entries of a slot that can be taken out of its lists, also where the slot's clause has left the store
+pub record CanPart (m n : Store) (rows : List RowView) (places : List ℕ) (s : ℕ) (sides : Option Sides) : Type 0 where
   pub kept : AreKept nobody m rows places
   pub slot : slot_at m (id_at m s) ≡ Some s
+  pub beside : AreBeside m n s
   pub is : sides ≡ sides_in m places s
 
 -- the list that has an entry can give it up for the one of a later literal

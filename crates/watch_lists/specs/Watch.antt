@@ -2,28 +2,23 @@
 use Rattle.std.specs.Prelude.{ℕ, ◌+◌, ◌*◌, refl}
 use Rattle.std.specs.Coded.{Coded, code_by, coded×, coded_ℕ}
 
--- the slot of a clause that watches the literal, the place of the literal in the clause's list, 0 or 1, and some literal of
--- the clause
+-- the slot of a clause that watches the literal, and some literal of the clause
 pub record WatchView : Type 0 where
   pub slot : ℕ
-  pub place : ℕ
   pub blocker : ℕ
 
 -- it is stored as its parts
 abbrev pub watch_code : Coded WatchView
-watch_code = code_by (ℕ × (ℕ × ℕ)) (coded× coded_ℕ (coded× coded_ℕ coded_ℕ)) (λ e. (e.slot, (e.place, e.blocker))) (λ p. record { slot = p.0; place = p.1.0; blocker = p.1.1 }) (λ _. refl)
+watch_code = code_by (ℕ × ℕ) (coded× coded_ℕ coded_ℕ) (λ e. (e.slot, e.blocker)) (λ p. record { slot = p.0; blocker = p.1 }) (λ _. refl)
 
 -- an entry in place of none
 abbrev pub no_watch : WatchView
-no_watch = record { slot = 0; place = 0; blocker = 0 }
+no_watch = record { slot = 0; blocker = 0 }
 
 -- the number of a place of a slot's clause, different for different slots and places
 abbrev pub node_at : ℕ → ℕ → ℕ
 node_at s p = 2 * s + p
 
-abbrev pub node_of : WatchView → ℕ
-node_of e = node_at e.slot e.place
-
 -- with another blocker
 abbrev pub with_blocker : WatchView → ℕ → WatchView
-with_blocker e b = record { slot = e.slot; place = e.place; blocker = b }
+with_blocker e b = record { slot = e.slot; blocker = b }

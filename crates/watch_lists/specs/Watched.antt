@@ -1,5 +1,5 @@
 -- What callers see of watched clauses: the clauses of a store, and for each literal the list of those that watch it.
-use Rattle.std.specs.Prelude.{◌≡◌, ℕ, ◌<◌, ◌*◌, ◌≤◌, ◌-◌, ◌++◌, replicate, map, Bool, true, ◌&&◌, ◌||◌, nat_eq, nat_le, List, [], length, slice_index, slice_index_or, slice_set, Some, refl}
+use Rattle.std.specs.Prelude.{◌≡◌, ℕ, ◌<◌, ◌*◌, ◌≤◌, ◌-◌, ◌++◌, replicate, map, Bool, true, ◌&&◌, ◌||◌, nat_eq, nat_le, if◌then◌else◌, List, [], length, slice_index, slice_index_or, slice_set, Some, refl}
 use Rattle.std.specs.FinMap as finmap
 use Rattle.std.specs.Coded.{Coded, code_by, coded×, coded_list, coded_ℕ}
 use Rattle.lits.specs.Clause.{has}
@@ -41,11 +41,14 @@ watchers w l = slots_in (list_at w.lists l)
 abbrev pub is_watch : List ℕ → ℕ → Bool
 is_watch ls l = nat_le 2 (length ls) && (nat_eq (slice_index ls 0) l || nat_eq (slice_index ls 1) l)
 
+-- at which of its first two places a list has a literal that is one of them, 0 or 1
+abbrev pub watch_place : List ℕ → ℕ → ℕ
+watch_place ls l = if nat_eq (slice_index ls 0) l then 0 else 1
+
 -- an entry of a literal's list is right for a clause of this list of literals
 pub record IsWatch (ls : List ℕ) (l : ℕ) (e : WatchView) : Type 0 where
   pub long : 2 ≤ length ls
-  pub low : e.place ≤ 1
-  pub lit : slice_index ls e.place ≡ l
+  pub lit : slice_index ls (watch_place ls l) ≡ l
   pub blocker : has ls e.blocker ≡ true
 
 -- with the variables up to this one reserved, where they aren't
@@ -72,5 +75,5 @@ pub record IsWatched (w : Watched) : Type 0 where
   pub watches : (id s l : ℕ) → slot_at w.clauses id ≡ Some s → has (watchers w l) s ≡ is_watch (lits_at w.clauses id) l
   -- only active clauses stand in lists
   pub slots : (l s : ℕ) → has (watchers w l) s ≡ true → IsSlot w.clauses s
-  -- with the place of the literal, and a literal of their own
+  -- that have the literal at one of the first two places, and with a literal of their own
   pub entries : (id l i : ℕ) → i < length (list_at w.lists l) → slot_at w.clauses id ≡ Some (watch_at w l i).slot → IsWatch (lits_at w.clauses id) l (watch_at w l i)

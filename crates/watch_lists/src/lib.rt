@@ -19,7 +19,7 @@ ghost use Rattle.std.specs.FinMap as finmap;
 ghost use Rattle.lits.specs.Clause.{has};
 ghost use Rattle.clause_store.specs.Clauses.{slot_at, lits_at, literals_at, kept_at, is_active, is_weakened, is_held, new_clause, weakened_entry, with_swap, IsSlot, IsFresh, IsRestored, IsActiveWith, IsWeakenedWith};
 ghost use Rattle.clause_store.specs.declared.StoreFault.TheVariants as fault;
-ghost use Rattle.watch_lists.specs.Watched.{IsWatched, AreReserved, list_at, watch_at, reserved, blocked};
+ghost use Rattle.watch_lists.specs.Watched.{IsWatched, AreReserved, list_at, watch_at, watch_place, reserved, blocked};
 
 use clause_store::Store;
 pub use clause_store::{Slot, StoreFault};
@@ -29,8 +29,6 @@ use std::marker::Model;
 
 mod lists;
 mod row;
-#[cfg(test)]
-mod tests;
 mod watch;
 
 use crate::lists::WatchTable;
@@ -147,7 +145,7 @@ impl Watches {
             return Err(StoreFault::NotActive);
         };
         let sides = self.table.sides_of(&self.store, slot);
-        self.table.part(sides);
+        self.table.part(&self.store, sides);
         lists::lower(&mut self.table.rows, self.store.lits(slot));
         let _ = self.store.delete(id);
         Ok(())
@@ -171,7 +169,7 @@ impl Watches {
         if let Err(fault) = self.store.weaken(id) {
             return Err(fault);
         }
-        self.table.part(sides);
+        self.table.part(&self.store, sides);
         Ok(())
     }
 
@@ -226,7 +224,7 @@ impl Watches {
         requires within { i < length (list_at self.old.lists l) }
         requires later { 2 ≤ k }
         requires in_bounds { (id : ℕ) → slot_at self.old.clauses id ≡ Some (watch_at self.old l i).slot → k < length (lits_at self.old.clauses id) }
-        ensures exchanged { (id : ℕ) → slot_at self.old.clauses id ≡ Some (watch_at self.old l i).slot → self.new.clauses ≡ with_swap self.old.clauses id (watch_at self.old l i).place k }
+        ensures exchanged { (id : ℕ) → slot_at self.old.clauses id ≡ Some (watch_at self.old l i).slot → self.new.clauses ≡ with_swap self.old.clauses id (watch_place (lits_at self.old.clauses id) l) k }
         ensures front { take i (list_at self.new.lists l) ≡ take i (list_at self.old.lists l) }
         ensures wide { length self.new.lists ≡ length self.old.lists }
         ensures sound { IsWatched self.new }

@@ -6,9 +6,9 @@ ghost use Rattle.std.specs.Prelude.{◌≡◌, ℕ, ◌+◌, ◌<◌, ◌≤◌,
 ghost use Rattle.std.specs.List.{list_all};
 ghost use Rattle.lits.specs.Clause.{has};
 ghost use Rattle.clause_store.specs.Clauses.{slot_at, with_swap, IsOnce, Store as Clauses};
-ghost use Rattle.watch_lists.specs.Watch.{node_at, node_of};
+ghost use Rattle.watch_lists.specs.Watch.{node_at};
 ghost use Rattle.watch_lists.specs.Watched.{entry_at};
-ghost use Rattle.watch_lists.specs.Lists.{no_row, row_at, watches_at, count_at, with_watches, IsCut, IsRowChanged, put_places, cut_places, lits_of, id_at, nobody, AreKept, AreRaised, AreLowered, sides_in, CanPart, CanMove};
+ghost use Rattle.watch_lists.specs.Lists.{no_row, row_at, watches_at, count_at, with_watches, IsCut, IsRowChanged, put_places, cut_places, last_in, lits_of, id_at, watch_places, nobody, AreKept, AreRaised, AreLowered, AreBeside, IsPlaced, sides_in, CanPart, CanMove};
 
 use crate::row::Row;
 use crate::watch::Watch;
@@ -21,7 +21,7 @@ use std::alloc::{AllocError, Global};
 pub(crate) struct WatchTable {
     // for each literal by its code
     pub(crate) rows: Vec<Row>,
-    // by the entry's number
+    // where entries stand: that of a slot's first place at twice the slot's number, and that of its second behind it
     pub(crate) places: Vec<u32>,
 }
 
@@ -90,6 +90,35 @@ pub(crate) fn lower(rows: &mut Vec<Row>, lits: &[Lit])
     }
 }
 
+/// At which of its first two places the clause of an entry has the list's literal, 0 or 1.
+#[inline(always)]
+fn place_of(store: &Store, s: Slot, l: Lit) -> usize
+    requires slot { slot_at store.now (id_at store.now s) ≡ Some s }
+    requires long { 2 ≤ length (lits_of store.now s) }
+    ensures is { result ≡ watch_places store.now s l }
+    ensures low { result ≤ 1 }
+{
+    if store.lits(s)[0] == l { 0 } else { 1 }
+}
+
+/// The same for an entry that stands at this place of the list. Mostly the table of places tells it, without a look at the
+/// clause, which lies elsewhere.
+#[inline(always)]
+fn place_of_entry(places: &Vec<u32>, store: &Store, s: Slot, l: Lit, at: usize) -> usize
+    requires { IsPlaced store.now places.now.items s l at }
+    ensures is { result ≡ watch_places store.now s l }
+    ensures low { result ≤ 1 }
+{
+    let node = 2 * s.number() as usize;
+    if places[node] as usize != at {
+        return 1;
+    }
+    if places[node + 1] as usize != at {
+        return 0;
+    }
+    place_of(store, s, l)
+}
+
 impl WatchTable {
     /// No list, and no place.
     pub(crate) fn new(alloc: Global) -> WatchTable
@@ -102,34 +131,37 @@ impl WatchTable {
         }
     }
 
-    /// Puts an entry at the end of a literal's list, which has room for it.
+    /// Puts the entry for a place of its clause's list at the end of a literal's list, which has room for it.
     #[inline(always)]
-    fn put(&mut self, l: Lit, watch: Watch)
+    fn put(&mut self, l: Lit, place: usize, watch: Watch)
         requires reserved { l < length self.old.rows.items }
         requires room { length (watches_at self.old.rows.items l) < count_at self.old.rows.items l }
-        requires place { node_of watch < length self.old.places.items }
+        requires place { node_at watch.slot place < length self.old.places.items }
         ensures rows { self.new.rows.items ≡ slice_set self.old.rows.items l (with_watches (row_at self.old.rows.items l) (watches_at self.old.rows.items l ++ watch ∷ [])) }
-        ensures places { self.new.places.items ≡ put_places self.old.places.items (watches_at self.old.rows.items l) watch }
+        ensures places { self.new.places.items ≡ put_places self.old.places.items (watches_at self.old.rows.items l) watch.slot place }
     {
         let row = &mut self.rows[l.code() as usize];
-        self.places[watch.node()] = row.list().len() as u32;
+        self.places[2 * watch.slot().number() as usize + place] = row.list().len() as u32;
         row.push(watch);
     }
 
     /// Takes out the entry at a place of a literal's list, to which the last one comes.
     #[inline(always)]
-    fn cut(&mut self, l: Lit, i: usize)
+    fn cut(&mut self, store: &Store, l: Lit, i: usize)
         requires within { i < length (watches_at self.old.rows.items l) }
         requires reserved { l < length self.old.rows.items }
         requires few { length (watches_at self.old.rows.items l) ≤ count_at self.old.rows.items l }
-        requires places { (k : ℕ) → k < length (watches_at self.old.rows.items l) → node_of (entry_at (watches_at self.old.rows.items l) k) < length self.old.places.items }
+        requires last { let es = watches_at self.old.rows.items l in i + 1 < length es → IsPlaced store.now self.old.places.items (last_in es).slot l (length es - 1) }
         ensures list { IsCut (watches_at self.old.rows.items l) (watches_at self.new.rows.items l) i }
         ensures rows { IsRowChanged l self.old.rows.items self.new.rows.items }
-        ensures places { self.new.places.items ≡ cut_places self.old.places.items (watches_at self.old.rows.items l) i }
+        ensures places { let es = watches_at self.old.rows.items l in self.new.places.items ≡ cut_places self.old.places.items es (watch_places store.now (last_in es).slot l) i }
     {
         let row = &mut self.rows[l.code() as usize];
         if let Some(last) = row.cut(i) {
-            self.places[last.node()] = i as u32;
+            let slot = last.slot();
+            let at = row.list().len();
+            let place = place_of_entry(&self.places, store, slot, l, at);
+            self.places[2 * slot.number() as usize + place] = i as u32;
         }
     }
 
@@ -158,8 +190,8 @@ impl WatchTable {
             return;
         }
         let (one, two) = store.pair(s);
-        self.put(one, Watch::new(s, 0, two));
-        self.put(two, Watch::new(s, 1, one));
+        self.put(one, 0, Watch::new(s, two));
+        self.put(two, 1, Watch::new(s, one));
     }
 
     /// Where the entries of a clause stand; None where its list has fewer than two literals.
@@ -181,15 +213,15 @@ impl WatchTable {
         })
     }
 
-    /// Takes both entries of a clause out of their lists, which may have left the store since.
-    pub(crate) fn part(&mut self, sides: Option<Sides>)
-        requires { (m : Clauses) × (s : ℕ) × CanPart m self.old.rows.items self.old.places.items s sides }
-        ensures kept { (m : Clauses) (s : ℕ) → CanPart m self.old.rows.items self.old.places.items s sides → AreKept (nat_eq s) m self.new.rows.items self.new.places.items }
+    /// Takes both entries of a clause out of their lists. The clause may have left the store since, but no other.
+    pub(crate) fn part(&mut self, store: &Store, sides: Option<Sides>)
+        requires { (m : Clauses) × (s : ℕ) × CanPart m store.now self.old.rows.items self.old.places.items s sides }
+        ensures kept { (m : Clauses) (s : ℕ) → CanPart m store.now self.old.rows.items self.old.places.items s sides → AreKept (nat_eq s) m self.new.rows.items self.new.places.items }
         ensures long { length self.new.rows.items ≡ length self.old.rows.items }
     {
         if let Some(sides) = sides {
-            self.cut(sides.one, sides.one_at as usize);
-            self.cut(sides.two, sides.two_at as usize);
+            self.cut(store, sides.one, sides.one_at as usize);
+            self.cut(store, sides.two, sides.two_at as usize);
         }
     }
 
@@ -198,18 +230,18 @@ impl WatchTable {
     #[inline(always)]
     pub(crate) fn move_watch(&mut self, store: &mut Store, l: Lit, i: usize, k: usize)
         requires { CanMove store.old self.old.rows.items self.old.places.items l i k }
-        ensures exchanged { let e = entry_at (watches_at self.old.rows.items l) i in store.new ≡ with_swap store.old (id_at store.old e.slot) e.place k }
+        ensures exchanged { let e = entry_at (watches_at self.old.rows.items l) i in store.new ≡ with_swap store.old (id_at store.old e.slot) (watch_places store.old e.slot l) k }
         ensures kept { AreKept nobody store.new self.new.rows.items self.new.places.items }
         ensures long { length self.new.rows.items ≡ length self.old.rows.items }
         ensures front { take i (watches_at self.new.rows.items l) ≡ take i (watches_at self.old.rows.items l) }
     {
         let watch = self.rows[l.code() as usize].list()[i];
         let slot = watch.slot();
-        let place = watch.place();
+        let place = place_of(store, slot, l);
         let joined = store.at(slot, k);
         let other = store.at(slot, 1 - place);
-        self.cut(l, i);
+        self.cut(store, l, i);
         store.swap(slot, place, k);
-        self.put(joined, Watch::new(slot, place, other));
+        self.put(joined, place, Watch::new(slot, other));
     }
 }

@@ -1,4 +1,4 @@
-use Rattle.std.proofs.Common.{refl, ◌≡◌, ◌<◌, sym, subst, ap, ◌∙◌, true, false, None}
+use Rattle.std.proofs.Common.{refl, ◌≡◌, sym, subst, ap, ◌∙◌, true, false, None}
 use Rattle.std.specs.Prelude.{is_some, is_err}
 use Rattle.std.specs.FinMap.{get}
 use Rattle.std.proofs.lemmas.Bool.{both_ways}
@@ -8,7 +8,6 @@ use Rattle.clause_store.specs.Clauses.{is_weakened}
 use Rattle.clause_store.specs.Rows.{IsStoreInside, row, entry_of, noted}
 use Rattle.clause_store.proofs.Stored.{weakened-row, found, Found, Switches, store-switched, all-switched, to-switched, from-switched, inside-same, inside-framed, store_same, on_err, on_ok, entry_live, restored, unlinked_at, unlinked_other, within_noted}
 use Rattle.clause_store.proofs.Stored.{is_off, live_found}
-use Rattle.clause_store.proofs.Changed.{slot-switched}
 use Rattle.clause_store.proofs.Store.restore.Goals as goal
 
 pub returns-in_default-clause-memory : goal.returns-in_default-clause-memory

@@ -6,6 +6,7 @@ use Rattle.pair_matcher.specs.Sides.{Judged, holding}
 use Rattle.pair_matcher.specs.Inside.{kept_of_clause, clauses_of_engine}
 use Rattle.pair_matcher.proofs.JudgingSets.{deletion_none, deletion_done}
 use Rattle.pair_matcher.proofs.Engines.{found_active, has_slot}
+use Rattle.pair_matcher.proofs.Converting.{deletion_found}
 use Rattle.pair_matcher.proofs.idrup.judge_deletion.Goals as goal
 
 pub returns-in_default-clause-judged : goal.returns-in_default-clause-judged
@@ -22,3 +23,7 @@ pub returns-clause-short : goal.returns-clause-short
 returns-clause-short c = λ h. absurd (both_ways _ c.in-Err.ensures.inactive
     (has_slot c.replace_reason.new.self c.in-Some.id c.in_ok-set.set
     (found_active c.store.result.now c.replace_reason.new.self (c.store.ensures.clauses ∙ sym c.replace_reason.ensures.clauses) c.in_ok-set.set c.in-Some.id c.in-Some.ensures.found)))
+
+pub returns-in-Ok-clause-found : goal.returns-in-Ok-clause-found
+returns-in-Ok-clause-found c = deletion_found c.store.result.now c.args.p.now.engine c.store.ensures.clauses _ _ _ c.in_ok-set.set c.in_ok-set.ensures.set
+    c.in-Some.id _ c.in-Some.ensures.found c.in-Some.ensures.least

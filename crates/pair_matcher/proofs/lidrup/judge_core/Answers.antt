@@ -2,11 +2,14 @@ use Rattle.std.proofs.Common.{ap, ◌∙◌, sym, subst}
 use Rattle.session_events.specs.State.{StandsFor}
 use Rattle.pair_matcher.specs.Inside.{HasHintRoom}
 use Rattle.pair_matcher.proofs.Judging.{core_order, core_hint, core_stranger, core_done}
-use Rattle.pair_matcher.proofs.Insides.{inside-events, store_within}
+use Rattle.pair_matcher.proofs.Insides.{at_below, inside-events, store_within}
 use Rattle.pair_matcher.proofs.lidrup.judge_core.Goals as goal
 
 pub returns-in-Some-clause-judged : goal.returns-in-Some-clause-judged
 returns-in-Some-clause-judged c = core_order c.args.p.now.store _ _ c.order_rule.result _ _ c.order_rule.ensures c.in-Some.rule c.in-Some.is
+
+pub run-requires-clause-start : goal.run-requires-clause-start
+run-requires-clause-start c = λ l k. at_below c.args.u.now c.args.p.now.hints l c.requires.room k
 
 pub run-requires-clause-store : goal.run-requires-clause-store
 run-requires-clause-store c = store_within _ _ _ c.requires.inside

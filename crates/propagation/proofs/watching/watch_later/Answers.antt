@@ -3,8 +3,9 @@ use Rattle.std.proofs.lemmas.List.{get_or_default}
 use Rattle.lits.specs.Literal.{var}
 use Rattle.session_rules.specs.Logic.{has}
 use Rattle.clause_store.specs.Clauses.{lits_at}
-use Rattle.watch_lists.specs.Watched.{watch_at}
+use Rattle.watch_lists.specs.Watched.{watch_at, watch_place}
 use Rattle.watch_lists.proofs.Members.{has-place}
+use Rattle.watch_lists.proofs.FirstTwo.{watch_place-low}
 use Rattle.propagation.specs.Engine.{literals}
 use Rattle.propagation.proofs.Reordering.{brought_later}
 use Rattle.propagation.proofs.Passing.{Looks, Rewatches, reads_active, looks_lits, looks_reserved, looks_here, moved_same, rewatched, rewatched_moved}
@@ -59,11 +60,10 @@ pub returns-else-is_true-clause-moved : goal.returns-else-is_true-clause-moved
 returns-else-is_true-clause-moved c =
     let r : Looks c.args.watches.now c.args.w c.args.i c.slot-slot.result c.list.result.now c.index-list-i.result c.lits.result.now = record { reads = record { sound = c.requires.sound; within = c.requires.within; list_is = c.list.ensures.list; entry_is = c.index-list-i.is; slot_is = c.slot-slot.ensures }; lits = c.lits.ensures.list } in
     let at = looks_here _ _ _ _ _ _ _ r in
-    let e = c.requires.sound.entries at.0 c.args.w c.args.i c.requires.within at.1 in
     let lt = c.requires.in_bounds at.0 at.1 in
-    let x : Rewatches (literals c.args.trail.now.entries) c.args.watches.now c.move_watch.new.self at.0 (watch_at c.args.watches.now c.args.w c.args.i).place c.args.k = record {
-      brought = brought_later _ _ at.0 (watch_at c.args.watches.now c.args.w c.args.i).slot _ c.args.k (record { slot = at.1; before = c.requires.sound; after = c.move_watch.ensures.sound; is = c.move_watch.ensures.exchanged at.0 at.1; wide = c.move_watch.ensures.wide }) e.low c.requires.later lt;
-      low = e.low;
+    let x : Rewatches (literals c.args.trail.now.entries) c.args.watches.now c.move_watch.new.self at.0 (watch_place (lits_at c.args.watches.now.clauses at.0) c.args.w) c.args.k = record {
+      brought = brought_later _ _ at.0 (watch_at c.args.watches.now c.args.w c.args.i).slot _ c.args.k (record { slot = at.1; before = c.requires.sound; after = c.move_watch.ensures.sound; is = c.move_watch.ensures.exchanged at.0 at.1; wide = c.move_watch.ensures.wide }) (watch_place-low (lits_at c.args.watches.now.clauses at.0) c.args.w) c.requires.later lt;
+      low = watch_place-low (lits_at c.args.watches.now.clauses at.0) c.args.w;
       later = c.requires.later;
       within = lt;
       free = c.requires.free at.0 at.1;
@@ -72,11 +72,10 @@ returns-else-is_true-clause-moved c =
 
 pub returns-else-is_true-clause-passed : goal.returns-else-is_true-clause-passed
 returns-else-is_true-clause-passed c = λ id at.
-    let e = c.requires.sound.entries id c.args.w c.args.i c.requires.within at in
     let lt = c.requires.in_bounds id at in
-    let x : Rewatches (literals c.args.trail.now.entries) c.args.watches.now c.move_watch.new.self id (watch_at c.args.watches.now c.args.w c.args.i).place c.args.k = record {
-      brought = brought_later _ _ id (watch_at c.args.watches.now c.args.w c.args.i).slot _ c.args.k (record { slot = at; before = c.requires.sound; after = c.move_watch.ensures.sound; is = c.move_watch.ensures.exchanged id at; wide = c.move_watch.ensures.wide }) e.low c.requires.later lt;
-      low = e.low;
+    let x : Rewatches (literals c.args.trail.now.entries) c.args.watches.now c.move_watch.new.self id (watch_place (lits_at c.args.watches.now.clauses id) c.args.w) c.args.k = record {
+      brought = brought_later _ _ id (watch_at c.args.watches.now c.args.w c.args.i).slot _ c.args.k (record { slot = at; before = c.requires.sound; after = c.move_watch.ensures.sound; is = c.move_watch.ensures.exchanged id at; wide = c.move_watch.ensures.wide }) (watch_place-low (lits_at c.args.watches.now.clauses id) c.args.w) c.requires.later lt;
+      low = watch_place-low (lits_at c.args.watches.now.clauses id) c.args.w;
       later = c.requires.later;
       within = lt;
       free = c.requires.free id at;

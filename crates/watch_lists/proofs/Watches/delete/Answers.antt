@@ -1,4 +1,4 @@
-use Rattle.std.proofs.Common.{◌≡◌, ◌<◌, Some, true, sym, ap, ◌∙◌, subst}
+use Rattle.std.proofs.Common.{◌≡◌, ◌<◌, Some, true, refl, sym, ap, ◌∙◌, subst}
 use Rattle.std.proofs.lemmas.Bool.{both_ways}
 use Rattle.std.specs.Prelude.{is_some}
 use Rattle.std.specs.FinMap.{remove}
@@ -18,7 +18,7 @@ pub sides_of-sides-requires-clause-slot : goal.sides_of-sides-requires-clause-sl
 sides_of-sides-requires-clause-slot c = id_at-slot c.self.inside.store c.args.id c.in-Some.slot (sym c.find.ensures.slot ∙ c.in-Some.is)
 
 pub part-requires : goal.part-requires
-part-requires c = (c.self.inside.store, c.in-Some.slot, record { kept = c.self.invariant.kept; slot = id_at-slot c.self.inside.store c.args.id c.in-Some.slot (sym c.find.ensures.slot ∙ c.in-Some.is); is = c.sides_of-sides.ensures })
+part-requires c = (c.self.inside.store, c.in-Some.slot, record { kept = c.self.invariant.kept; slot = id_at-slot c.self.inside.store c.args.id c.in-Some.slot (sym c.find.ensures.slot ∙ c.in-Some.is); beside = record { slot = λ t d e. e; lits = λ t d e. refl }; is = c.sides_of-sides.ensures })
 
 pub lower-requires-clause-reserved : goal.lower-requires-clause-reserved
 lower-requires-clause-reserved c = λ l h.
@@ -39,7 +39,7 @@ invariant_of-self c =
         stored = c.self.invariant.kept.stored;
         slot = active;
         is = is;
-        kept = c.part.ensures.kept c.self.inside.store c.in-Some.slot (record { kept = c.self.invariant.kept; slot = id_at-slot c.self.inside.store c.args.id c.in-Some.slot active; is = c.sides_of-sides.ensures });
+        kept = c.part.ensures.kept c.self.inside.store c.in-Some.slot (record { kept = c.self.invariant.kept; slot = id_at-slot c.self.inside.store c.args.id c.in-Some.slot active; beside = record { slot = λ t d e. e; lits = λ t d e. refl }; is = c.sides_of-sides.ensures });
         lits = c.lits.ensures c.args.id active;
         lowered = c.lower.ensures;
       });

@@ -1,6 +1,0 @@
-use Rattle.std.proofs.Common.{take}
-use Rattle.icnf_lines.specs.Marks.{AreKnown}
-use Rattle.icnf_lines.proofs.matching.tests.are_known.Given as goal
-
-abbrev pub invariant-loop-l : goal.invariant-loop-l
-invariant-loop-l l = record { known : AreKnown l.dense (take l.l-index l.lits) }
