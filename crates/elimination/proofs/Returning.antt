@@ -6,7 +6,7 @@ use Rattle.std.proofs.lemmas.Bool.{cases_Bool, both_ways, not-true, not_from_fal
 use Rattle.std.proofs.lemmas.Option.{same_Some}
 use Rattle.lits.specs.Literal.{var}
 use Rattle.lits.specs.Clause.{has, set_of, same_set, is_tautology}
-use Rattle.lits.proofs.Members.{here, there, here_or_there, not_in_nil, any_from, filter_at, has_from}
+use Rattle.lits.proofs.Members.{here, there, here_or_there, not_in_nil, any_from, filter_at, filter_from, has_from}
 use Rattle.lits.proofs.Ascending.{same_set-set_of}
 use Rattle.session_rules.specs.Own.{added_clause, weakened_clause}
 use Rattle.session_rules.specs.declared.Told.{Told}
@@ -19,7 +19,7 @@ use Rattle.restore.specs.declared.lists.Elim.{Elim}
 use Rattle.restore.specs.Resolution.{of_variable, has_variable, variables, Entails}
 use Rattle.restore.specs.Stack.{clauses_of, stacked, KeepsResolvents, has_entry, taken, left_in, is_wanted, wants, IsClosed}
 use Rattle.restore.proofs.Joined.{append_at, append_left, append_right, map_at, map_from}
-use Rattle.restore.proofs.Keeping.{taken_or_left, Kept-take, Entails-take}
+use Rattle.restore.proofs.Keeping.{Kept-take, Entails-take}
 use Rattle.restore.proofs.Taking.{is_wanted-closed, none_left}
 use Rattle.elimination_laws.specs.Eligible.{how_many, OftenAs, Covered}
 use Rattle.elimination_laws.specs.Irredundant.{no_tautologies, stepped}
@@ -140,6 +140,12 @@ module _ (d : Database) (stack : List Elim) (inputs : List (List ℕ)) (h : IsBo
     left_at : (f : Elim) → Contains rest f → Contains stack f × (w f.var ≡ false)
     left_at f m = let q = filter_at (λ (e : Elim). not (w e.var)) stack f m in (q.0, not-true _ q.1)
 
+    taken_or_left : (f : Elim) → Contains stack f → Contains rest f ⊎ Contains (taken w stack) f
+    taken_or_left f m = elim (cases_Bool (w f.var)) [
+      | inl q ↦ inr (filter_from (λ (e : Elim). w e.var) stack f m q)
+      | inr q ↦ inl (filter_from (λ (e : Elim). not (w e.var)) stack f m (not_from_false _ q))
+    ]
+
     back : (k : Kept) → Contains ks k → standing e.engine.clauses k.id ≡ Some (record { literals = set_of k.lits; active = true })
     back k m = r.leads.replayed k.id ∙ restored_back (standing d.engine.clauses) ks (apart_chosen (λ (e : Elim). w e.var) stack s.apart) k m
 
@@ -175,18 +181,18 @@ module _ (d : Database) (stack : List Elim) (inputs : List (List ℕ)) (h : IsBo
     whole_left : (id : ℕ) → is_weakened e.engine.clauses id ≡ true → (f : Elim) × (k : Kept) × Contains rest f × Contains f.clauses k × (k.id ≡ id)
     whole_left id h = elim (among_ids ks id) [
       | inl k ↦
-          let no : is_weakened e.engine.clauses id ≡ false = ap (is_weakened e.engine.clauses) (sym k.2) ∙ awake (back k.0 k.1) in
+          let no : is_weakened e.engine.clauses id ≡ false = ap (is_weakened e.engine.clauses) (sym k.2) ∙ awake k.0.id (set_of k.0.lits) (back k.0 k.1) in
           absurd (both_ways _ no h)
       | inr n ↦
           let o = s.whole id (sym (same_weakened d.engine.clauses e.engine.clauses id (others id n)) ∙ h) in
-          elim (taken_or_left w stack o.0 o.2) [
+          elim (taken_or_left o.0 o.2) [
             | inl q ↦ (o.0, o.1, q, o.3, o.4)
             | inr q ↦ absurd (n o.1 (kept_from (taken w stack) o.0 o.1 q o.3) (sym o.4))
           ]
     ]
       where
-        awake : {id : ℕ} {c : List ℕ} → standing e.engine.clauses id ≡ Some (record { literals = c; active = true }) → is_weakened e.engine.clauses id ≡ false
-        awake {id} {c} q = weakened-by e.engine.clauses id ∙ ap (λ (o : Option Standing). is_some (option_and_then if_weakened o)) q
+        awake : (id : ℕ) (c : List ℕ) → standing e.engine.clauses id ≡ Some (record { literals = c; active = true }) → is_weakened e.engine.clauses id ≡ false
+        awake id c q = weakened-by e.engine.clauses id ∙ ap (λ (o : Option Standing). is_some (option_and_then if_weakened o)) q
 
     gone_left : (f : Elim) (id : ℕ) (c : List ℕ) → Contains rest f → active_at e.engine.clauses id ≡ Some c → has_variable f.var c ≡ true → is_tautology c ≡ true
     gone_left f id c m a v = elim (among_ids ks id) [
