@@ -117,7 +117,7 @@ apart_all : (n : ℕ) (ids : List ℕ) → ((id : ℕ) → Contains ids id → i
 apart_all n [] h = tt
 apart_all n (id ∷ ids) h = (ne_eqb n id (λ e. h id (here id ids) (sym e)), apart_all n ids (λ j m. h j (there id j ids m)))
 
-flips : (a b : ℕ) → nat_eq a b ≡ nat_eq b a
+pub flips : (a b : ℕ) → nat_eq a b ≡ nat_eq b a
 flips a b = elim (cases_Bool (nat_eq a b)) [
   | inl y ↦ y ∙ sym (eq-eqb b a (sym (eqb-true a b y)))
   | inr k ↦ k ∙ sym (ne_eqb b a (λ e. both_ways _ k (eq-eqb a b (sym e))))

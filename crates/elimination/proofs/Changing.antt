@@ -1,11 +1,12 @@
 -- Clauses of which one changes, by their standings: what stays, and what is listed where it becomes irredundant.
-use Rattle.std.proofs.Common.{◌≡◌, ◌≢◌, ℕ, ◌+◌, ◌*◌, ◌<◌, ◌≤◌, ◌^◌, ◌⊎◌, Bool, true, false, nat_eq, List, [], ◌∷◌, ◌++◌, length, map, Contains, Option, Some, None, is_some, refl, sym, ap, ◌∙◌, subst, inl, inr, arith}
+use Rattle.std.proofs.Common.{◌≡◌, ◌≢◌, ℕ, ◌+◌, ◌*◌, ◌<◌, ◌≤◌, ◌^◌, ◌⊎◌, Bool, true, false, nat_eq, List, [], ◌∷◌, ◌++◌, length, map, Contains, Option, Some, None, is_some, refl, sym, ap, ◌∙◌, subst, inl, inr, arith, eq-eqb}
 use Rattle.std.specs.Prelude.{option_map, IsPermutation}
 use Rattle.std.specs.List.{IsDistinct}
 use Rattle.std.specs.FinMap as finmap
 use Rattle.std.proofs.lemmas.Bool.{cases_Bool, both_ways}
 use Rattle.std.proofs.lemmas.Option.{same_Some, none-some}
 use Rattle.std.proofs.lemmas.List.Sorted.{IsPermutation-middle, IsPermutation-sym}
+use Rattle.std.proofs.lemmas.Map.Keys.{IsDistinct-head, IsDistinct-tail, IsDistinct-IsPermutation}
 use Rattle.lits.specs.Literal.{var}
 use Rattle.lits.specs.Clause.{has, set_of, same_set, is_tautology}
 use Rattle.lits.proofs.Members.{here, has_at}
@@ -15,8 +16,8 @@ use Rattle.propagation.specs.Clauses.{Clauses, active_at, literals_at}
 use Rattle.propagation.specs.Engine.{EngineView, HasRoomFor, level_after}
 use Rattle.propagation.proofs.Changes.{cases}
 use Rattle.elimination_laws.specs.Eligible.{how_many}
-use Rattle.occurrence_lists.specs.Occurring.{AreListed, IsAdded, StandsFor, Numbered}
-use Rattle.occurrence_lists.proofs.Standing.{added, reordered}
+use Rattle.occurrence_lists.specs.Occurring.{AreListed, IsAdded, IsRemoved, StandsFor, Numbered}
+use Rattle.occurrence_lists.proofs.Standing.{added, removed, reordered}
 use Rattle.elimination.specs.declared.database.Database.{Database}
 use Rattle.elimination.specs.Boards.{AreIrredundant}
 use Rattle.elimination.specs.Steps.{Standing, standing}
@@ -24,6 +25,8 @@ use Rattle.elimination.specs.Known.{AreListedBy, numbered_in}
 use Rattle.elimination.specs.Inside.{IsInserted}
 use Rattle.elimination.specs.Databases.{IsDatabase, irredundant_of}
 use Rattle.elimination.proofs.Admitting.{map-same, middle_at, middle_old, map-middle, map-parts, count_middle, inserted_once}
+use Rattle.elimination.proofs.Admitting.{flips as swaps}
+use Rattle.elimination.proofs.Restored.{all_rec_at}
 use Rattle.elimination.proofs.Standings.{key-by, active-by, same_literals, same_active, same_key, active_from, literals_from}
 
 -- what was there stays where an id comes between
@@ -107,3 +110,96 @@ module _ (d : Database) (h : IsDatabase d) (n next : ℕ) (ls : List ℕ) (e : E
     | inl y ↦ let z = s ∙ y in let b : how_many p (set_of ls ∷ irredundant_of d) ≡ how_many p (irredundant_of d) + 1 = rw z (omega arith) in rw y (omega (arith, a, b))
     | inr y ↦ let z = s ∙ y in let b : how_many p (set_of ls ∷ irredundant_of d) ≡ how_many p (irredundant_of d) + 0 = rw z (omega arith) in rw y (omega (arith, a, b))
   ]
+
+-- ---- No irredundant clause changes
+
+module _ (d : Database) (h : IsDatabase d) (n : ℕ) (e : EngineView) (absent : Contains d.irredundant n → ⊥)
+    (others : (id : ℕ) → id ≢ n → standing e.clauses id ≡ standing d.engine.clauses id) where
+  unchanged : (id : ℕ) → Contains d.irredundant id → standing e.clauses id ≡ standing d.engine.clauses id
+  unchanged id m = others id (λ q. absent (subst (λ z. Contains d.irredundant z) q m))
+
+  pub same_clauses : map (literals_at e.clauses) d.irredundant ≡ irredundant_of d
+  same_clauses = map-same (literals_at e.clauses) (literals_at d.engine.clauses) d.irredundant (λ id m. same_literals d.engine.clauses e.clauses id (unchanged id m))
+
+  same_numbered : numbered_in e.clauses d.irredundant ≡ numbered_in d.engine.clauses d.irredundant
+  same_numbered = map-same (λ id. (id, literals_at e.clauses id)) (λ id. (id, literals_at d.engine.clauses id)) d.irredundant (λ id m. ap (λ (z : List ℕ). (id, z)) (same_literals d.engine.clauses e.clauses id (unchanged id m)))
+
+  active_still : (id : ℕ) → Contains d.irredundant id → (c : List ℕ) × (active_at e.clauses id ≡ Some c) × (is_tautology c ≡ false)
+  active_still id m = let a = h.irredundant.active id m in (a.0, same_active d.engine.clauses e.clauses id (unchanged id m) ∙ a.1, a.2)
+
+  pub same_sound : e.trail ≡ d.engine.trail → e.vars ≡ d.engine.vars → (finmap.contains_key e.clauses n ≡ true → n < d.next_id)
+      → IsDatabase (record { engine = e; irredundant = d.irredundant; occurrences = d.occurrences; next_id = d.next_id })
+  same_sound t v key = record {
+    level = ap level_after t ∙ h.level;
+    ids = λ id k. elim (cases id n) [
+      | inl q ↦ subst (λ z. z < d.next_id) (sym q) (key (ap (finmap.contains_key e.clauses) (sym q) ∙ k))
+      | inr ne ↦ h.ids id (sym (same_key d.engine.clauses e.clauses id (others id ne)) ∙ k)
+    ];
+    irredundant = record { once = h.irredundant.once; active = active_still };
+    listed = record { stands = subst (λ z. StandsFor d.occurrences z) (sym same_numbered) h.listed.stands; active = active_still };
+    wide = let w = h.wide in omega (arith, w, v);
+    first_id = h.first_id;
+    last_id = h.last_id;
+  }
+
+-- ---- A clause is irredundant no more
+
+module _ (d : Database) (h : IsDatabase d) (n : ℕ) (e : EngineView) (ids : List ℕ) (rows : List (List ℕ))
+    (others : (id : ℕ) → id ≢ n → standing e.clauses id ≡ standing d.engine.clauses id)
+    (i : IsInserted ids n d.irredundant) (r : IsRemoved d.occurrences n (literals_at d.engine.clauses n) rows) where
+  moved : IsDistinct nat_eq (n ∷ (i.front ++ i.back))
+  moved = IsDistinct-IsPermutation nat_eq swaps (i.front ++ n ∷ i.back) (n ∷ (i.front ++ i.back)) (IsPermutation-middle i.front n i.back) (subst (λ z. IsDistinct nat_eq z) i.after h.irredundant.once)
+
+  pub once_less : IsDistinct nat_eq ids
+  once_less = subst (λ z. IsDistinct nat_eq z) (sym i.before) (IsDistinct-tail nat_eq n (i.front ++ i.back) moved)
+
+  pub other_less : (id : ℕ) → Contains ids id → id ≢ n
+  other_less id m q = both_ways _ (all_rec_at (λ y. nat_eq n y ≡ false) (i.front ++ i.back) (IsDistinct-head nat_eq n (i.front ++ i.back) moved) id (subst (λ z. Contains z id) i.before m)) (eq-eqb n id (sym q))
+
+  stays_less : (id : ℕ) → Contains ids id → standing e.clauses id ≡ standing d.engine.clauses id
+  stays_less id m = others id (other_less id m)
+
+  clauses_less : map (literals_at e.clauses) ids ≡ map (literals_at d.engine.clauses) ids
+  clauses_less = map-same (literals_at e.clauses) (literals_at d.engine.clauses) ids (λ id m. same_literals d.engine.clauses e.clauses id (stays_less id m))
+
+  numbered_less : numbered_in e.clauses ids ≡ numbered_in d.engine.clauses ids
+  numbered_less = map-same (λ id. (id, literals_at e.clauses id)) (λ id. (id, literals_at d.engine.clauses id)) ids (λ id m. ap (λ (z : List ℕ). (id, z)) (same_literals d.engine.clauses e.clauses id (stays_less id m)))
+
+  active_less : (id : ℕ) → Contains ids id → (c : List ℕ) × (active_at e.clauses id ≡ Some c) × (is_tautology c ≡ false)
+  active_less id m = let a = h.irredundant.active id (member_old ids d.irredundant n i id m) in (a.0, same_active d.engine.clauses e.clauses id (stays_less id m) ∙ a.1, a.2)
+
+  stands_less : StandsFor rows (numbered_in e.clauses ids)
+  stands_less =
+      let g : ℕ → Numbered = λ id. (id, literals_at d.engine.clauses id) in
+      let olds : numbered_in d.engine.clauses d.irredundant ≡ map g i.front ++ (n, literals_at d.engine.clauses n) ∷ map g i.back = map-middle g ids d.irredundant n i in
+      let news : numbered_in e.clauses ids ≡ map g i.front ++ map g i.back = numbered_less ∙ map-parts g ids d.irredundant n i in
+      subst (λ z. StandsFor rows z) (sym news) (removed d.occurrences rows (map g i.front ++ map g i.back) n (literals_at d.engine.clauses n) r
+      (reordered d.occurrences (map g i.front ++ (n, literals_at d.engine.clauses n) ∷ map g i.back) ((n, literals_at d.engine.clauses n) ∷ (map g i.front ++ map g i.back))
+      (IsPermutation-middle (map g i.front) (n, literals_at d.engine.clauses n) (map g i.back)) (subst (λ z. StandsFor d.occurrences z) olds h.listed.stands)))
+
+  pub less_sound : e.trail ≡ d.engine.trail → e.vars ≡ d.engine.vars → n < d.next_id
+      → IsDatabase (record { engine = e; irredundant = ids; occurrences = rows; next_id = d.next_id })
+  less_sound t v below = record {
+    level = ap level_after t ∙ h.level;
+    ids = λ id k. elim (cases id n) [
+      | inl q ↦ omega (arith, q, below)
+      | inr ne ↦ h.ids id (sym (same_key d.engine.clauses e.clauses id (others id ne)) ∙ k)
+    ];
+    irredundant = record { once = once_less; active = active_less };
+    listed = record { stands = stands_less; active = active_less };
+    wide = let w = h.wide in let z = r.sized in omega (arith, w, z, v);
+    first_id = h.first_id;
+    last_id = h.last_id;
+  }
+
+  pub less_counted : (p : List ℕ → Bool) (ls : List ℕ) → p (literals_at d.engine.clauses n) ≡ p ls → how_many p (map (literals_at e.clauses) ids) + how_many p (ls ∷ []) ≡ how_many p (irredundant_of d) + 0
+  less_counted p ls s =
+      let f = literals_at d.engine.clauses in
+      let old : irredundant_of d ≡ map f i.front ++ f n ∷ map f i.back = map-middle f ids d.irredundant n i in
+      let new : map (literals_at e.clauses) ids ≡ map f i.front ++ map f i.back = clauses_less ∙ map-parts f ids d.irredundant n i in
+      let a : how_many p (irredundant_of d) ≡ how_many p (f n ∷ (map f i.front ++ map f i.back)) = ap (how_many p) old ∙ count_middle p (map f i.front) (map f i.back) (f n) in
+      let b = ap (how_many p) new in
+      elim (cases_Bool (p ls)) [
+        | inl y ↦ let z = s ∙ y in let k : how_many p (f n ∷ (map f i.front ++ map f i.back)) ≡ how_many p (map f i.front ++ map f i.back) + 1 = rw z (omega arith) in rw y (omega (arith, a, b, k))
+        | inr y ↦ let z = s ∙ y in let k : how_many p (f n ∷ (map f i.front ++ map f i.back)) ≡ how_many p (map f i.front ++ map f i.back) + 0 = rw z (omega arith) in rw y (omega (arith, a, b, k))
+      ]

@@ -18,3 +18,11 @@ pub mod Restored
 pub mod Told
 pub mod Bringing
 pub mod Returning
+pub mod Unmarked
+pub mod Unforced
+pub mod Stored
+pub mod Recalling
+pub mod Making
+pub mod Resolved
+pub mod Paired
+pub mod EachResolved

@@ -58,7 +58,7 @@ module _ (m : Clauses) (st : Store) (rows : List (List ℕ)) (ids : List ℕ) (s
     listed = λ l q. b.stands.listed l q ∙ ap (times q) (sym (same_ids l ids (λ id k. k)));
   }
 
-  same_sets : (js : List ℕ) → ((id : ℕ) → Contains js id → Contains ids id) → OftenAs (clauses_at st js) (map (literals_at m) js)
+  pub same_sets : (js : List ℕ) → ((id : ℕ) → Contains js id → Contains ids id) → OftenAs (clauses_at st js) (map (literals_at m) js)
   same_sets [] h c = refl
   same_sets (j ∷ js) h c =
       let r = same_sets js (λ id k. h id (there j id js k)) c in

@@ -2,7 +2,7 @@
 use Rattle.std.proofs.Common.{◌≡◌, ◌≢◌, ℕ, Bool, true, false, nat_eq, ◌&&◌, List, [], Option, Some, None, is_some, refl, sym, ap, ◌∙◌, subst, inl, inr, arith, eq-eqb}
 use Rattle.std.specs.Prelude.{is_none, option_map, option_and_then, unwrap_or}
 use Rattle.std.specs.FinMap as finmap
-use Rattle.std.specs.FinMap.{get-insert}
+use Rattle.std.specs.FinMap.{get-insert, get-remove}
 use Rattle.std.specs.Ordering.{nat_cmp}
 use Rattle.std.specs.Cmp.{nat_cmp_total}
 use Rattle.std.proofs.lemmas.Bool.{cases_Bool, both_ways, ne_eqb}
@@ -126,6 +126,14 @@ module _ (m : Clauses) (id : ℕ) (c : Clause) where
 
   pub standing_other : (q : ℕ) → q ≢ id → standing (finmap.insert m id c) q ≡ standing m q
   standing_other q ne = rw (get-insert nat_cmp_total, differs q id ne) refl
+
+-- one clause is taken out
+module _ (m : Clauses) (id : ℕ) where
+  pub standing_removed : standing (finmap.remove m id) id ≡ None
+  standing_removed = rw (get-remove nat_cmp_total, ties id) refl
+
+  pub standing_left : (q : ℕ) → q ≢ id → standing (finmap.remove m id) q ≡ standing m q
+  standing_left q ne = rw (get-remove nat_cmp_total, differs q id ne) refl
 
 pub standing_at : (m n : Clauses) (id : ℕ) (s : Option Standing) → standing n id ≡ s → ((q : ℕ) → q ≢ id → standing n q ≡ standing m q) → (q : ℕ) → standing n q ≡ with_at (standing m) id s q
 standing_at m n id s e o q = elim (cases q id) [

@@ -1,24 +1,27 @@
 -- What a told step makes of the clauses.
 use Rattle.std.proofs.Common.{◌≡◌, ◌≢◌, ℕ, ◌+◌, ◌*◌, ◌<◌, ◌≤◌, ◌^◌, true, false, List, [], ◌∷◌, length, Contains, Option, Some, None, refl, sym, ap, ◌∙◌, subst, arith}
 use Rattle.std.specs.FinMap as finmap
+use Rattle.std.specs.Prelude.{is_some}
+use Rattle.std.proofs.lemmas.Bool.{both_ways}
 use Rattle.std.proofs.lemmas.Option.{none-some}
 use Rattle.lits.specs.Clause.{set_of, same_set, is_tautology}
 use Rattle.lits.proofs.Ascending.{set_of_from, same_set-set_of}
 use Rattle.session_rules.specs.declared.Told.{Told}
 use Rattle.session_rules.specs.declared.Told.TheVariants as told
 use Rattle.propagation.specs.Clauses.{Clauses, active_at, literals_at}
-use Rattle.propagation.specs.Engine.{EngineView, IsEngine, HasRoomFor, IsRestored, added_clause, with_added}
+use Rattle.propagation.specs.Engine.{EngineView, IsEngine, HasRoomFor, IsRestored, added_clause, weakened_clause, with_added, with_weakened, without_clause}
 use Rattle.propagation.proofs.Changes.{literals-reserved}
 use Rattle.restore.specs.declared.lists.Kept.{Kept}
-use Rattle.occurrence_lists.specs.Occurring.{IsAdded}
+use Rattle.occurrence_lists.specs.Occurring.{IsAdded, IsRemoved}
 use Rattle.elimination.specs.declared.database.Database.{Database}
 use Rattle.elimination.specs.Steps.{Standing, standing, weakened_in, IsDue}
 use Rattle.elimination.specs.Inside.{IsInserted}
 use Rattle.elimination.specs.Databases.{IsDatabase, LeadTo}
 use Rattle.elimination.specs.Restoring.{Restores}
-use Rattle.elimination.proofs.Seen.{flips}
-use Rattle.elimination.proofs.Standings.{active_key, active_from, weakened_literals, weakened_inactive, weakened_key, standing_put, standing_other, standing_at}
-use Rattle.elimination.proofs.Changing.{more_sound, more_counted}
+use Rattle.elimination_laws.specs.Eligible.{how_many}
+use Rattle.elimination.proofs.Seen.{flips, literals-active}
+use Rattle.elimination.proofs.Standings.{active_key, active_from, weakened_literals, weakened_inactive, weakened_key, standing_put, standing_other, standing_removed, standing_left, standing_at, active-by, key-by}
+use Rattle.elimination.proofs.Changing.{more_sound, more_counted, same_clauses, same_sound, less_sound, less_counted}
 
 -- no irredundant clause has the next id
 pub next_free : (d : Database) → IsDatabase d → Contains d.irredundant d.next_id → ⊥
@@ -103,3 +106,56 @@ module _ (d : Database) (h : IsDatabase d) (k : Kept) (due : IsDue (standing d.e
             (ap (λ (z : EngineView). z.trail) b.changed) (ap (λ (z : EngineView). z.vars) b.changed)
             (h.ids k.id (weakened_key d.engine.clauses k.id (set_of k.lits) weak)) (omega arith) h.last_id;
       }
+
+-- ---- A deletion
+
+module _ (d : Database) (h : IsDatabase d) (id : ℕ) (ls : List ℕ) (due : IsDue (standing d.engine.clauses) (told.Delete id ls)) (redundant : Contains d.irredundant id → ⊥)
+    (e : EngineView) (gone : e ≡ without_clause d.engine id) where
+  gone_now : standing e.clauses id ≡ None
+  gone_now = ap (λ (z : EngineView). standing z.clauses id) gone ∙ standing_removed d.engine.clauses id
+
+  gone_others : (q : ℕ) → q ≢ id → standing e.clauses q ≡ standing d.engine.clauses q
+  gone_others q ne = ap (λ (z : EngineView). standing z.clauses q) gone ∙ standing_left d.engine.clauses id q ne
+
+  pub deleted_sound : IsDatabase (record { engine = e; irredundant = d.irredundant; occurrences = d.occurrences; next_id = d.next_id })
+  deleted_sound = same_sound d h id e redundant gone_others (ap (λ (z : EngineView). z.trail) gone) (ap (λ (z : EngineView). z.vars) gone)
+      (λ k. absurd (both_ways _ (key-by e.clauses id ∙ ap is_some gone_now) k))
+
+  pub deleted_leads : LeadTo d (told.Delete id ls ∷ []) (record { engine = e; irredundant = d.irredundant; occurrences = d.occurrences; next_id = d.next_id })
+  deleted_leads = record {
+    due = (due, tt);
+    replayed = standing_at d.engine.clauses e.clauses id None gone_now gone_others;
+    numbered = refl;
+    trail = ap (λ (z : EngineView). z.trail) gone;
+    vars = ap (λ (z : EngineView). z.vars) gone;
+    counted = λ c. let a = ap (how_many (same_set c)) (same_clauses d h id e redundant gone_others) in omega (arith, a);
+  }
+
+-- ---- A weakening
+
+module _ (d : Database) (h : IsDatabase d) (id : ℕ) (ls : List ℕ) (due : IsDue (standing d.engine.clauses) (told.Weaken id ls))
+    (ids : List ℕ) (rows : List (List ℕ)) (i : IsInserted ids id d.irredundant) (r : IsRemoved d.occurrences id (literals_at d.engine.clauses id) rows)
+    (e : EngineView) (weak : e ≡ with_weakened d.engine id) where
+  was : literals_at d.engine.clauses id ≡ set_of ls
+  was = literals-active d.engine.clauses id (set_of ls) (active-by d.engine.clauses id ∙ due.1)
+
+  asleep_now : standing e.clauses id ≡ Some (record { literals = set_of ls; active = false })
+  asleep_now = ap (λ (z : EngineView). standing z.clauses id) weak ∙ standing_put d.engine.clauses id (weakened_clause (literals_at d.engine.clauses id))
+      ∙ ap (λ (z : List ℕ). Some (record { literals = z; active = false })) was
+
+  asleep_others : (q : ℕ) → q ≢ id → standing e.clauses q ≡ standing d.engine.clauses q
+  asleep_others q ne = ap (λ (z : EngineView). standing z.clauses q) weak ∙ standing_other d.engine.clauses id (weakened_clause (literals_at d.engine.clauses id)) q ne
+
+  pub weakened_sound : IsDatabase (record { engine = e; irredundant = ids; occurrences = rows; next_id = d.next_id })
+  weakened_sound = less_sound d h id e ids rows asleep_others i r (ap (λ (z : EngineView). z.trail) weak) (ap (λ (z : EngineView). z.vars) weak)
+      (h.ids id (active_key d.engine.clauses id (set_of ls) (active-by d.engine.clauses id ∙ due.1)))
+
+  pub weakened_leads : LeadTo d (told.Weaken id ls ∷ []) (record { engine = e; irredundant = ids; occurrences = rows; next_id = d.next_id })
+  weakened_leads = record {
+    due = (due, tt);
+    replayed = standing_at d.engine.clauses e.clauses id (Some (record { literals = set_of ls; active = false })) asleep_now asleep_others;
+    numbered = refl;
+    trail = ap (λ (z : EngineView). z.trail) weak;
+    vars = ap (λ (z : EngineView). z.vars) weak;
+    counted = λ c. less_counted d h id e ids rows asleep_others i r (same_set c) ls (ap (same_set c) was ∙ flips c (set_of ls) ls (same_set-set_of ls));
+  }

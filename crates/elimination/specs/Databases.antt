@@ -1,18 +1,21 @@
 -- The clauses of a board, and what steps that are told make of them.
-use Rattle.std.specs.Prelude.{◌≡◌, ℕ, ◌+◌, ◌*◌, ◌<◌, ◌≤◌, ◌^◌, true, List, length, map, filter_map, Contains, Option}
+use Rattle.std.specs.Prelude.{◌≡◌, ℕ, ◌+◌, ◌*◌, ◌<◌, ◌≤◌, ◌^◌, true, List, [], ◌∷◌, length, map, filter_map, Contains, Option}
 use Rattle.std.specs.FinMap as finmap
 use Rattle.session_rules.specs.Logic.{same_set}
 use Rattle.session_rules.specs.Own.{added_clause, weakened_clause}
 use Rattle.session_rules.specs.declared.Told.{Told}
+use Rattle.session_rules.specs.declared.Told.TheVariants as told
 use Rattle.session_rules.specs.declared.LogFault.{LogFault}
 use Rattle.propagation.specs.Clauses.{literals_at}
 use Rattle.propagation.specs.Engine.{level_after}
+use Rattle.restore.specs.declared.lists.Kept.{Kept}
 use Rattle.restore.specs.declared.lists.Elim.{Elim}
 use Rattle.elimination_laws.specs.Eligible.{how_many}
 use Rattle.elimination.specs.declared.database.Database.{Database}
 use Rattle.elimination.specs.declared.fault.BoardFault.{BoardFault}
 use Rattle.elimination.specs.declared.fault.BoardFault.TheVariants as faults
 use Rattle.elimination.specs.Boards.{BoardView, AreIrredundant}
+use Rattle.elimination.specs.Inside.{IsInserted}
 use Rattle.elimination.specs.Known.{AreListedBy}
 use Rattle.elimination.specs.Steps.{TakesEach, Standing, steps_of, standing, after_steps, IsDue, AreDue, NumbersLemmas}
 
@@ -61,3 +64,21 @@ pub record BreaksOff {L : Type 0} (takes : L → Told → L → Type 0) (refuses
   pub taken : TakesEach takes before steps between
   pub due : AreDue f steps
   pub cause : IsCause refuses (after_steps f steps) between fault after
+
+-- ---- One clause
+
+-- an active clause was told to be deleted, and the irredundant ones stay
+pub record HasDeleted {L : Type 0} (takes : L → Told → L → Type 0) (before : L) (old : Database) (id : ℕ) (new : Database) (after : L) : Type 0 where
+  pub lits : List ℕ
+  pub taken : takes before (told.Delete id lits) after
+  pub leads : LeadTo old (told.Delete id lits ∷ []) new
+  pub sound : IsDatabase new
+  pub same : new.irredundant ≡ old.irredundant
+
+-- an irredundant clause was told to be weakened, and is irredundant no more; what is kept is its copy
+pub record HasWeakened {L : Type 0} (takes : L → Told → L → Type 0) (before : L) (old : Database) (id : ℕ) (new : Database) (after : L) (kept : Kept) : Type 0 where
+  pub taken : takes before (told.Weaken id kept.lits) after
+  pub named : kept.id ≡ id
+  pub leads : LeadTo old (told.Weaken id kept.lits ∷ []) new
+  pub sound : IsDatabase new
+  pub taken_out : IsInserted new.irredundant id old.irredundant

@@ -6,3 +6,4 @@ pub mod Known
 pub mod Inside
 pub mod Databases
 pub mod Restoring
+pub mod Resolving

@@ -57,4 +57,12 @@ impl IdSet {
         self.marks[id as usize] = true;
         Ok(())
     }
+
+    /// Takes out an id that is there.
+    pub(crate) fn remove(&mut self, id: Id)
+        requires { Contains self.old id }
+        ensures { IsInserted self.new id self.old }
+    {
+        self.marks[id as usize] = false;
+    }
 }

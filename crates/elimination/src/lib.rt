@@ -18,6 +18,7 @@ mod known;
 mod laws;
 mod listing;
 mod pairs;
+mod resolving;
 mod touching;
 
 pub use asked::would_be_eligible;

@@ -53,3 +53,6 @@ returns-clause-room g c =
     let t = g.met.L.Log.taken_room c.args.log.now (told.Lemma c.args.self.now.next_id c.args.lits.now c.args.hints.now) c.lemma.new.self c.in_default.ensures.ok in
     let p = told_some (g.L.Log.form c.args.log.now) (g.L.Log.names c.args.log.now) (told.Lemma c.args.self.now.next_id c.args.lits.now c.args.hints.now) in
     let r = c.requires.room in omega (arith, t, p, r)
+
+pub returns-clause-listed : goal.returns-clause-listed
+returns-clause-listed g c = when_ok c.list_clause-listed.result (sym c.is_err-2.ensures.value ∙ c.if-is_err-2.false) c.list_clause-listed.ensures.inserted
