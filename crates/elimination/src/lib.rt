@@ -4,8 +4,8 @@
 //! were given, and the next id. Its calls tell each step to a log the moment they take it. What was told says all of what
 //! became of the clauses: replayed by ids on the clauses before, the steps give those after.
 //!
-//! So far a [`Board`] is made, takes inputs, says which variables are eligible and extends models. To restore what a line mentions
-//! and to eliminate variables isn't here yet.
+//! So far a [`Board`] is made, restores what literals mention, takes inputs, says which variables are eligible and extends models.
+//! To eliminate variables isn't here yet, but for the resolvents of one, which are told and added.
 #![tactic(auto)]
 
 mod asked;
