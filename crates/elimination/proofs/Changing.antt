@@ -33,8 +33,15 @@ use Rattle.elimination.proofs.Standings.{key-by, active-by, same_literals, same_
 pub member_old : (ids new : List ℕ) (n : ℕ) → IsInserted ids n new → (id : ℕ) → Contains ids id → Contains new id
 member_old ids new n i id m = subst (λ z. Contains z id) (sym i.after) (middle_old i.front i.back n id (subst (λ z. Contains z id) i.before m))
 
-member_at : (ids new : List ℕ) (n : ℕ) → IsInserted ids n new → (id : ℕ) → Contains new id → (id ≡ n) ⊎ Contains ids id
+pub member_at : (ids new : List ℕ) (n : ℕ) → IsInserted ids n new → (id : ℕ) → Contains new id → (id ≡ n) ⊎ Contains ids id
 member_at ids new n i id m = elim (middle_at i.front i.back n id (subst (λ z. Contains z id) i.after m)) [ inl e ↦ inl e | inr k ↦ inr (subst (λ z. Contains z id) (sym i.before) k) ]
+
+-- an id that comes between others that differ comes to their front, and it is none of them
+inserted_front : (ids new : List ℕ) (n : ℕ) (i : IsInserted ids n new) → IsDistinct nat_eq new → IsDistinct nat_eq (n ∷ (i.front ++ i.back))
+inserted_front ids new n i d = IsDistinct-IsPermutation nat_eq swaps (i.front ++ n ∷ i.back) (n ∷ (i.front ++ i.back)) (IsPermutation-middle i.front n i.back) (subst (λ z. IsDistinct nat_eq z) i.after d)
+
+pub inserted_other : (ids new : List ℕ) (n : ℕ) (i : IsInserted ids n new) → IsDistinct nat_eq new → (id : ℕ) → Contains ids id → id ≢ n
+inserted_other ids new n i d id m q = both_ways _ (all_rec_at (λ y. nat_eq n y ≡ false) (i.front ++ i.back) (IsDistinct-head nat_eq n (i.front ++ i.back) (inserted_front ids new n i d)) id (subst (λ z. Contains z id) i.before m)) (eq-eqb n id (sym q))
 
 -- a clause of these literals is active now, and irredundant
 module _ (d : Database) (h : IsDatabase d) (n next : ℕ) (ls : List ℕ) (e : EngineView) (ids : List ℕ) (rows : List (List ℕ))
@@ -147,14 +154,11 @@ module _ (d : Database) (h : IsDatabase d) (n : ℕ) (e : EngineView) (absent : 
 module _ (d : Database) (h : IsDatabase d) (n : ℕ) (e : EngineView) (ids : List ℕ) (rows : List (List ℕ))
     (others : (id : ℕ) → id ≢ n → standing e.clauses id ≡ standing d.engine.clauses id)
     (i : IsInserted ids n d.irredundant) (r : IsRemoved d.occurrences n (literals_at d.engine.clauses n) rows) where
-  moved : IsDistinct nat_eq (n ∷ (i.front ++ i.back))
-  moved = IsDistinct-IsPermutation nat_eq swaps (i.front ++ n ∷ i.back) (n ∷ (i.front ++ i.back)) (IsPermutation-middle i.front n i.back) (subst (λ z. IsDistinct nat_eq z) i.after h.irredundant.once)
-
   pub once_less : IsDistinct nat_eq ids
-  once_less = subst (λ z. IsDistinct nat_eq z) (sym i.before) (IsDistinct-tail nat_eq n (i.front ++ i.back) moved)
+  once_less = subst (λ z. IsDistinct nat_eq z) (sym i.before) (IsDistinct-tail nat_eq n (i.front ++ i.back) (inserted_front ids d.irredundant n i h.irredundant.once))
 
-  pub other_less : (id : ℕ) → Contains ids id → id ≢ n
-  other_less id m q = both_ways _ (all_rec_at (λ y. nat_eq n y ≡ false) (i.front ++ i.back) (IsDistinct-head nat_eq n (i.front ++ i.back) moved) id (subst (λ z. Contains z id) i.before m)) (eq-eqb n id (sym q))
+  other_less : (id : ℕ) → Contains ids id → id ≢ n
+  other_less = inserted_other ids d.irredundant n i h.irredundant.once
 
   stays_less : (id : ℕ) → Contains ids id → standing e.clauses id ≡ standing d.engine.clauses id
   stays_less id m = others id (other_less id m)

@@ -26,3 +26,4 @@ pub mod Making
 pub mod Resolved
 pub mod Paired
 pub mod EachResolved
+pub mod Lessening

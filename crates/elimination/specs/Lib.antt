@@ -7,3 +7,4 @@ pub mod Inside
 pub mod Databases
 pub mod Restoring
 pub mod Resolving
+pub mod Weakening

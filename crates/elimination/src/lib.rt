@@ -20,6 +20,7 @@ mod listing;
 mod pairs;
 mod resolving;
 mod touching;
+mod weakening;
 
 pub use asked::would_be_eligible;
 pub use board::Board;
