@@ -27,3 +27,4 @@ pub mod Resolved
 pub mod Paired
 pub mod EachResolved
 pub mod Lessening
+pub mod Erasing

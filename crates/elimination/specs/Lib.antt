@@ -8,3 +8,4 @@ pub mod Databases
 pub mod Restoring
 pub mod Resolving
 pub mod Weakening
+pub mod Deleting

@@ -11,6 +11,7 @@
 mod asked;
 mod board;
 mod database;
+mod deleting;
 mod eligible;
 mod fault;
 mod id_set;
