@@ -28,3 +28,4 @@ pub mod Paired
 pub mod EachResolved
 pub mod Lessening
 pub mod Erasing
+pub mod TakenOut

@@ -20,6 +20,7 @@ mod laws;
 mod listing;
 mod pairs;
 mod resolving;
+mod taking_out;
 mod touching;
 mod weakening;
 
