@@ -1,6 +1,6 @@
 -- What an input that was added makes of a board.
 use Rattle.std.proofs.Common.{◌≡◌, ◌≢◌, ℕ, suc, ◌+◌, ◌*◌, ◌<◌, ◌≤◌, ◌^◌, ◌⊎◌, Bool, true, false, not, ◌&&◌, nat_eq, if◌then◌else◌, List, [], ◌∷◌, ◌++◌, length, length-append, map, filter, Contains, Option, Some, None, Result, Ok, Err, refl, sym, ap, ◌∙◌, subst, inl, inr, arith, eqb-true, eq-eqb}
-use Rattle.std.specs.Prelude.{OnOk, is_some, is_none, is_err, option_map, IsPermutation}
+use Rattle.std.specs.Prelude.{OnOk, IfOk, is_some, is_none, is_err, option_map, IsPermutation}
 use Rattle.std.specs.List.{IsDistinct, AllByRecursion, list_any}
 use Rattle.std.specs.FinMap as finmap
 use Rattle.std.specs.FinMap.{get-insert}
@@ -92,49 +92,49 @@ admission (Ok u) e new ids new_ids rows new_rows ins new_ins id s c set b h q t 
 
 -- ---- Lists
 
-map-same : {X Y : Type 0} (f g : X → Y) (xs : List X) → ((x : X) → Contains xs x → f x ≡ g x) → map f xs ≡ map g xs
+pub map-same : {X Y : Type 0} (f g : X → Y) (xs : List X) → ((x : X) → Contains xs x → f x ≡ g x) → map f xs ≡ map g xs
 map-same f g [] h = refl
 map-same f g (x ∷ xs) h = let e = h x (here x xs) in let r = map-same f g xs (λ y m. h y (there x y xs m)) in ap (λ z. z ∷ map f xs) e ∙ ap (λ z. g x ∷ z) r
 
 -- what stands with one more is the one, or was there
 module _ {X : Type 0} where
-  middle_at : (front back : List X) (x y : X) → Contains (front ++ x ∷ back) y → (y ≡ x) ⊎ Contains (front ++ back) y
+  pub middle_at : (front back : List X) (x y : X) → Contains (front ++ x ∷ back) y → (y ≡ x) ⊎ Contains (front ++ back) y
   middle_at front back x y m = elim (append_at front (x ∷ back) y m) [
     | inl k ↦ inr (append_left front back y k)
     | inr k ↦ elim (here_or_there x y back k) [ inl e ↦ inl (sym e) | inr o ↦ inr (append_right front back y o) ]
   ]
 
-  middle_old : (front back : List X) (x y : X) → Contains (front ++ back) y → Contains (front ++ x ∷ back) y
+  pub middle_old : (front back : List X) (x y : X) → Contains (front ++ back) y → Contains (front ++ x ∷ back) y
   middle_old front back x y m = elim (append_at front back y m) [
     | inl k ↦ append_left front (x ∷ back) y k
     | inr k ↦ append_right front (x ∷ back) y (there x y back k)
   ]
 
-  middle_new : (front back : List X) (x : X) → Contains (front ++ x ∷ back) x
+  pub middle_new : (front back : List X) (x : X) → Contains (front ++ x ∷ back) x
   middle_new front back x = append_right front (x ∷ back) x (here x back)
 
 apart_all : (n : ℕ) (ids : List ℕ) → ((id : ℕ) → Contains ids id → id ≢ n) → AllByRecursion (λ y. nat_eq n y ≡ false) ids
 apart_all n [] h = tt
 apart_all n (id ∷ ids) h = (ne_eqb n id (λ e. h id (here id ids) (sym e)), apart_all n ids (λ j m. h j (there id j ids m)))
 
-flips : (a b : ℕ) → nat_eq a b ≡ nat_eq b a
+pub flips : (a b : ℕ) → nat_eq a b ≡ nat_eq b a
 flips a b = elim (cases_Bool (nat_eq a b)) [
   | inl y ↦ y ∙ sym (eq-eqb b a (sym (eqb-true a b y)))
   | inr k ↦ k ∙ sym (ne_eqb b a (λ e. both_ways _ k (eq-eqb a b (sym e))))
 ]
 
-inserted_once : (ids new : List ℕ) (n : ℕ) → ((id : ℕ) → Contains ids id → id ≢ n) → IsDistinct nat_eq ids → IsInserted ids n new → IsDistinct nat_eq new
+pub inserted_once : (ids new : List ℕ) (n : ℕ) → ((id : ℕ) → Contains ids id → id ≢ n) → IsDistinct nat_eq ids → IsInserted ids n new → IsDistinct nat_eq new
 inserted_once ids new n h d i = subst (λ z. IsDistinct nat_eq z) (sym i.after)
     (IsDistinct-IsPermutation nat_eq flips (n ∷ (i.front ++ i.back)) (i.front ++ n ∷ i.back) (IsPermutation-sym (i.front ++ n ∷ i.back) (n ∷ (i.front ++ i.back)) (IsPermutation-middle i.front n i.back))
     (IsDistinct-cons nat_eq n (i.front ++ i.back) (subst (λ z. AllByRecursion (λ y. nat_eq n y ≡ false) z) i.before (apart_all n ids h)) (subst (λ z. IsDistinct nat_eq z) i.before d)))
 
-map-middle : {Y : Type 0} (f : ℕ → Y) (ids new : List ℕ) (n : ℕ) (i : IsInserted ids n new) → map f new ≡ map f i.front ++ f n ∷ map f i.back
+pub map-middle : {Y : Type 0} (f : ℕ → Y) (ids new : List ℕ) (n : ℕ) (i : IsInserted ids n new) → map f new ≡ map f i.front ++ f n ∷ map f i.back
 map-middle f ids new n i = ap (map f) i.after ∙ map-append f i.front (n ∷ i.back)
 
-map-parts : {Y : Type 0} (f : ℕ → Y) (ids new : List ℕ) (n : ℕ) (i : IsInserted ids n new) → map f ids ≡ map f i.front ++ map f i.back
+pub map-parts : {Y : Type 0} (f : ℕ → Y) (ids new : List ℕ) (n : ℕ) (i : IsInserted ids n new) → map f ids ≡ map f i.front ++ map f i.back
 map-parts f ids new n i = ap (map f) i.before ∙ map-append f i.front i.back
 
-count_middle : (p : List ℕ → Bool) (front back : List (List ℕ)) (d : List ℕ) → how_many p (front ++ d ∷ back) ≡ how_many p (d ∷ (front ++ back))
+pub count_middle : (p : List ℕ → Bool) (front back : List (List ℕ)) (d : List ℕ) → how_many p (front ++ d ∷ back) ≡ how_many p (d ∷ (front ++ back))
 count_middle p front back d = ap length (filter-append p front (d ∷ back)) ∙ length-append (filter p front) (filter p (d ∷ back)) ∙ by_test (p d) refl
   where
     rest : length (filter p (front ++ back)) ≡ length (filter p front) + length (filter p back)
@@ -368,3 +368,8 @@ module _ (b : BoardView) (rows : List (List ℕ)) (h : IsBoardInside b rows) (c 
 pub when_ok : {F P : Type 0} (r : Result (Unit {0}) F) → is_err r ≡ false → OnOk r P → P
 when_ok (Ok u) e p = p
 when_ok (Err f) e p = cc e
+
+-- and the value of a success
+pub some_ok : {X F : Type 0} (P : X → Type 0) (r : Result X F) → is_err r ≡ false → IfOk r P → (x : X) × P x
+some_ok P (Ok x) e p = (x, p)
+some_ok P (Err f) e p = cc e

@@ -10,15 +10,15 @@ use Rattle.elimination.specs.Calls.{AreTold}
 pub none_told : (b : BoardView) → AreTold b [] b
 none_told b = record { due = tt; replayed = λ id. refl; numbered = refl; inputs = refl; vars = refl }
 
-after-append : (f : ℕ → Option Standing) (ts us : List Told) → after_steps f (ts ++ us) ≡ after_steps (after_steps f ts) us
+pub after-append : (f : ℕ → Option Standing) (ts us : List Told) → after_steps f (ts ++ us) ≡ after_steps (after_steps f ts) us
 after-append f [] us = refl
 after-append f (t ∷ ts) us = after-append (after_step f t) ts us
 
-due-append : (f : ℕ → Option Standing) (ts us : List Told) → AreDue f ts → AreDue (after_steps f ts) us → AreDue f (ts ++ us)
+pub due-append : (f : ℕ → Option Standing) (ts us : List Told) → AreDue f ts → AreDue (after_steps f ts) us → AreDue f (ts ++ us)
 due-append f [] us h k = k
 due-append f (t ∷ ts) us h k = (h.0, due-append (after_step f t) ts us h.1 k)
 
-numbers-append : (n m k : ℕ) (ts us : List Told) → NumbersLemmas n ts m → NumbersLemmas m us k → NumbersLemmas n (ts ++ us) k
+pub numbers-append : (n m k : ℕ) (ts us : List Told) → NumbersLemmas n ts m → NumbersLemmas m us k → NumbersLemmas n (ts ++ us) k
 numbers-append n m k [] us h g = subst (λ z. NumbersLemmas z us k) (sym h) g
 numbers-append n m k (told.Lemma id ls hints ∷ ts) us h g = (h.0, numbers-append (n + 1) m k ts us h.1 g)
 numbers-append n m k (told.Delete id ls ∷ ts) us h g = numbers-append n m k ts us h g

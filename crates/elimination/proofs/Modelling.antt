@@ -15,7 +15,7 @@ use Rattle.restore.specs.Values.{value, reserved, IsReserved}
 use Rattle.restore.proofs.Extending.{extended_satisfies, extended_outside}
 use Rattle.elimination.specs.Boards.{BoardView, IsBoard, irredundant_clauses}
 
-all_by : {X : Type 0} (P : X → Type 0) (xs : List X) → ((x : X) → Contains xs x → P x) → All P xs
+pub all_by : {X : Type 0} (P : X → Type 0) (xs : List X) → ((x : X) → Contains xs x → P x) → All P xs
 all_by P [] h k d lt = absurd (omega (arith, lt))
 all_by P (x ∷ xs) h zero d lt = h x (here x xs)
 all_by P (x ∷ xs) h (suc k) d lt = all_by P xs (λ y m. h y (there x y xs m)) k d (omega (arith, lt))

@@ -23,7 +23,7 @@ use Rattle.elimination.specs.Pairs.{clauses_at, AreUsable}
 use Rattle.elimination.specs.Known.{numbered, numbered_in, AreListedBy}
 use Rattle.elimination.proofs.Deciding.{has_either}
 
-flips : (c a b : List ℕ) → same_set a b ≡ true → same_set c a ≡ same_set c b
+pub flips : (c a b : List ℕ) → same_set a b ≡ true → same_set c a ≡ same_set c b
 flips c a b h = same_tests _ _ (λ p. same_set-chain c a b p h) (λ p. same_set-chain c b a p (same_set-flip a b h))
 
 pub literals-active : (m : Clauses) (id : ℕ) (c : List ℕ) → active_at m id ≡ Some c → literals_at m id ≡ c
@@ -58,7 +58,7 @@ module _ (m : Clauses) (st : Store) (rows : List (List ℕ)) (ids : List ℕ) (s
     listed = λ l q. b.stands.listed l q ∙ ap (times q) (sym (same_ids l ids (λ id k. k)));
   }
 
-  same_sets : (js : List ℕ) → ((id : ℕ) → Contains js id → Contains ids id) → OftenAs (clauses_at st js) (map (literals_at m) js)
+  pub same_sets : (js : List ℕ) → ((id : ℕ) → Contains js id → Contains ids id) → OftenAs (clauses_at st js) (map (literals_at m) js)
   same_sets [] h c = refl
   same_sets (j ∷ js) h c =
       let r = same_sets js (λ id k. h id (there j id js k)) c in

@@ -4,3 +4,8 @@ pub mod Calls
 pub mod Pairs
 pub mod Known
 pub mod Inside
+pub mod Databases
+pub mod Restoring
+pub mod Resolving
+pub mod Weakening
+pub mod Deleting

@@ -1,22 +1,28 @@
 // The board between two calls: clauses, stack, inputs and the next id.
-ghost use Rattle.std.specs.Prelude.{◌≡◌, ℕ, ◌<◌, ◌≤◌, ◌^◌, ◌++◌, true, false, max, Contains, IfOk, OnOk, OnErr};
+ghost use Rattle.std.specs.Prelude.{◌≡◌, ℕ, ◌+◌, ◌<◌, ◌≤◌, ◌^◌, ◌++◌, List, true, false, max, Contains, IfOk, IfErr, OnOk, OnErr};
 ghost use Rattle.lits.specs.Literal.{var};
 ghost use Rattle.propagation.specs.Engine.{HasRoomFor};
 ghost use Rattle.session_rules.specs.Logic.{satisfies_formula};
 ghost use Rattle.restore.specs.Stack.{stacked, has_entry};
 ghost use Rattle.restore.specs.Values.{value, reserved};
-ghost use Rattle.elimination.specs.Calls.{IsAdmitted};
+ghost use Rattle.session_rules.specs.declared.Told.{Told};
+ghost use Rattle.elimination.specs.Steps.{TakesEach, standing};
+ghost use Rattle.elimination.specs.Databases.{BreaksOff};
+ghost use Rattle.elimination.specs.Calls.{IsTouched, IsAdmitted};
 ghost use Rattle.elimination.specs.Boards.{IsBoard, no_board, with_reserved, irredundant_clauses, eligible_on};
 
 use crate::asked::would_be_eligible;
+use crate::database::Database;
+use crate::fault::BoardFault;
 use crate::id_set::IdSet;
 use crate::listing::add_input;
+use crate::touching::bring_back;
 use lits::{Lit, MAX_VAR};
 use occurrence_lists::Occurrences;
 use propagation::Engine;
 use restore::{Stack, Values};
 use session_events::ClauseList;
-use session_rules::Id;
+use session_rules::{Id, Log};
 use std::alloc::{AllocError, Global};
 use std::marker::Model;
 
@@ -24,27 +30,24 @@ use std::marker::Model;
 /// variables, the inputs as they were given, and the next id.
 #[derive(Drop)]
 pub struct Board {
-    engine: Engine,
-    irredundant: IdSet,
-    // for each literal the irredundant clauses that hold it
-    occurrences: Occurrences,
+    clauses: Database,
     stack: Stack,
     inputs: ClauseList,
-    next_id: Id,
     alloc: Global,
 }
 
 impl Model for Board {
     ghost use Rattle.elimination.specs.Boards.{BoardView, board_code};
     ghost use Rattle.elimination.specs.Inside.{IsBoardInside};
+    ghost use Rattle.elimination.specs.Databases.{board_of};
 
     ghost Value = { BoardView };
 
     ghost coded = { board_code };
 
-    ghost view = { λ b. record { engine = b.engine; irredundant = b.irredundant; stack = b.stack; inputs = b.inputs; next_id = b.next_id } };
+    ghost view = { λ b. board_of b.clauses b.stack b.inputs };
 
-    ghost invariant = { λ b. IsBoardInside (record { engine = b.engine; irredundant = b.irredundant; stack = b.stack; inputs = b.inputs; next_id = b.next_id }) b.occurrences };
+    ghost invariant = { λ b. IsBoardInside (board_of b.clauses b.stack b.inputs) b.clauses.occurrences };
 }
 
 impl Board {
@@ -53,12 +56,14 @@ impl Board {
         ensures { result ≡ no_board }
     {
         Board {
-            engine: Engine::new(alloc),
-            irredundant: IdSet::new(alloc),
-            occurrences: Occurrences::new(alloc),
+            clauses: Database {
+                engine: Engine::new(alloc),
+                irredundant: IdSet::new(alloc),
+                occurrences: Occurrences::new(alloc),
+                next_id: 1,
+            },
             stack: Stack::new(alloc),
             inputs: ClauseList::new(alloc),
-            next_id: 1,
             alloc,
         }
     }
@@ -71,8 +76,8 @@ impl Board {
         ensures ok { OnOk result (self.new ≡ with_reserved self.old (max self.old.engine.vars vars)) }
         ensures err { OnErr result (self.new ≡ self.old) }
     {
-        self.occurrences.reserve(vars)?;
-        self.engine.reserve(vars)
+        self.clauses.occurrences.reserve(vars)?;
+        self.clauses.engine.reserve(vars)
     }
 
     /// The id that the next clause takes.
@@ -80,7 +85,28 @@ impl Board {
         ensures value { result ≡ self.now.next_id }
         ensures sound { IsBoard self.now }
     {
-        self.next_id
+        self.clauses.next_id
+    }
+
+    /// Takes the entries that literals mention out of the stack, with each entry whose variable their clauses hold, and so on,
+    /// and restores their clauses: each is told the moment it is restored, and is irredundant again. Then no variable of the
+    /// literals has an entry. Where none has one before, nothing is told, and no memory is taken.
+    ///
+    /// `Log` means that the log refused a step, and `Memory` want of memory; the board is given up then, and left as a new one.
+    pub fn touch<L: Log>(&mut self, lits: &[Lit], log: &mut L) -> Result<(), BoardFault>
+        requires room { self.old.next_id + L.room log.old ≤ 2 ^ 63 }
+        ensures touched { OnOk result ((ts : List Told) × TakesEach L.takes log.old ts log.new × IsTouched self.old lits.now ts self.new) }
+        ensures room { OnOk result (self.new.next_id + L.room log.new ≤ 2 ^ 63) }
+        ensures broken { IfErr result (λ e. BreaksOff L.takes L.refuses (standing self.old.engine.clauses) log.old e log.new) }
+        ensures given_up { OnErr result (self.new ≡ no_board) }
+    {
+        let alloc = self.alloc;
+        if let Err(fault) = bring_back(&mut self.clauses, &mut self.stack, alloc, lits, log) {
+            *self = Board::new(alloc);
+            return Err(fault);
+        }
+        let _ = self.clauses.engine.level();
+        Ok(())
     }
 
     /// Adds an input as a clause with the next id, and answers this id. The clause is irredundant, unless it is a tautology. Its
@@ -95,12 +121,12 @@ impl Board {
         ensures admitted { OnOk result (IsAdmitted self.old lits.now self.new) }
         ensures given_up { OnErr result (self.new ≡ no_board) }
     {
-        let id = self.next_id;
+        let id = self.clauses.next_id;
         let alloc = self.alloc;
         let added = add_input(
-            &mut self.engine,
-            &mut self.irredundant,
-            &mut self.occurrences,
+            &mut self.clauses.engine,
+            &mut self.clauses.irredundant,
+            &mut self.clauses.occurrences,
             &mut self.inputs,
             alloc,
             id,
@@ -110,8 +136,8 @@ impl Board {
             *self = Board::new(alloc);
             return Err(AllocError);
         }
-        let _ = self.engine.level();
-        self.next_id = id + 1;
+        let _ = self.clauses.engine.level();
+        self.clauses.next_id = id + 1;
         Ok(id)
     }
 
@@ -137,9 +163,9 @@ impl Board {
         if var == 0 {
             return false;
         }
-        if var > self.engine.vars() {
+        if var > self.clauses.engine.vars() {
             return false;
         }
-        would_be_eligible(&self.engine, &self.occurrences, var, frozen)
+        would_be_eligible(&self.clauses.engine, &self.clauses.occurrences, var, frozen)
     }
 }

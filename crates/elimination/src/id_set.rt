@@ -1,5 +1,6 @@
 // A set of ids, as a mark for each id: it takes a byte an id, and no id is looked for.
 ghost use Rattle.std.specs.Prelude.{◌≡◌, ◌<◌, ◌^◌, [], length, OnOk, OnErr, Contains};
+ghost use Rattle.lits.specs.Clause.{has};
 ghost use Rattle.elimination.specs.Inside.{ids_from, IsInserted};
 
 use session_rules::Id;
@@ -56,5 +57,23 @@ impl IdSet {
         widen(&mut self.marks, id as usize)?;
         self.marks[id as usize] = true;
         Ok(())
+    }
+
+    /// Takes out an id that is there.
+    pub(crate) fn remove(&mut self, id: Id)
+        requires { Contains self.old id }
+        ensures { IsInserted self.new id self.old }
+    {
+        self.marks[id as usize] = false;
+    }
+
+    /// Whether an id is there.
+    pub(crate) fn has(&self, id: Id) -> bool
+        ensures { result ≡ has self.now id }
+    {
+        if id >= self.marks.len() as u64 {
+            return false;
+        }
+        self.marks[id as usize]
     }
 }
