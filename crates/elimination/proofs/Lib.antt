@@ -29,3 +29,4 @@ pub mod EachResolved
 pub mod Lessening
 pub mod Erasing
 pub mod TakenOut
+pub mod Searched

@@ -1,5 +1,5 @@
 -- The clauses of a board, and what steps that are told make of them.
-use Rattle.std.specs.Prelude.{◌≡◌, ℕ, ◌+◌, ◌*◌, ◌<◌, ◌≤◌, ◌^◌, true, List, [], ◌∷◌, length, map, filter_map, Contains, Option}
+use Rattle.std.specs.Prelude.{◌≡◌, ℕ, ◌+◌, ◌*◌, ◌<◌, ◌≤◌, ◌^◌, true, List, [], ◌∷◌, length, map, filter_map, Option}
 use Rattle.std.specs.FinMap as finmap
 use Rattle.session_rules.specs.Logic.{same_set}
 use Rattle.session_rules.specs.Own.{added_clause, weakened_clause}

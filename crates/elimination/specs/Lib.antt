@@ -9,3 +9,4 @@ pub mod Restoring
 pub mod Resolving
 pub mod Weakening
 pub mod Deleting
+pub mod Searching

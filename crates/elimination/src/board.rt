@@ -30,10 +30,10 @@ use std::marker::Model;
 /// variables, the inputs as they were given, and the next id.
 #[derive(Drop)]
 pub struct Board {
-    clauses: Database,
-    stack: Stack,
-    inputs: ClauseList,
-    alloc: Global,
+    pub(crate) clauses: Database,
+    pub(crate) stack: Stack,
+    pub(crate) inputs: ClauseList,
+    pub(crate) alloc: Global,
 }
 
 impl Model for Board {

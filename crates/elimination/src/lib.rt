@@ -20,6 +20,7 @@ mod laws;
 mod listing;
 mod pairs;
 mod resolving;
+mod searching;
 mod taking_out;
 mod touching;
 mod weakening;
@@ -34,3 +35,4 @@ pub use laws::{
     told_steps_join,
 };
 pub use pairs::{has_few_resolvents, may_go};
+pub use searching::{Searching, Simplified};
