@@ -2,33 +2,16 @@
 #![tactic(auto)]
 
 #[cfg(test)]
-mod analysis;
-#[cfg(test)]
 mod boards;
-#[cfg(test)]
-mod closing;
 #[cfg(test)]
 mod deciding;
 #[cfg(test)]
-mod engine;
-#[cfg(test)]
 mod events;
-#[cfg(test)]
-mod hints;
 #[cfg(test)]
 mod occurring;
 #[cfg(test)]
 mod order;
 #[cfg(test)]
-mod plain;
-#[cfg(test)]
-#[tactic(auto, using(lit_pool::proofs::Slots::slot_steps))]
-mod pool;
-#[cfg(test)]
 mod resolving;
 #[cfg(test)]
 mod restoring;
-#[cfg(test)]
-mod store;
-#[cfg(test)]
-mod watching;
