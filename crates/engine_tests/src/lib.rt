@@ -12,6 +12,11 @@ mod occurring;
 #[cfg(test)]
 mod order;
 #[cfg(test)]
+mod plain;
+#[cfg(test)]
+#[tactic(auto, using(lit_pool::proofs::Slots::slot_steps))]
+mod pool;
+#[cfg(test)]
 mod resolving;
 #[cfg(test)]
 mod restoring;
