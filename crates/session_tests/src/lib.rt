@@ -6,7 +6,7 @@ mod causes;
 #[cfg(test)]
 mod chains;
 #[cfg(test)]
-mod conversions;
+mod converting;
 #[cfg(test)]
 mod cuts;
 #[cfg(test)]
